@@ -1,0 +1,12 @@
+pub mod Zeros
+pub mod Ranks
+pub mod Judged
+pub mod Moves
+pub mod Stands
+pub mod Refuse
+pub mod Bindings
+pub mod Tails
+pub mod Accept
+pub mod Complete
+pub mod Whole
+pub mod Storing

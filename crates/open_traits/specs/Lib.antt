@@ -1,0 +1,2 @@
+pub mod Alternates
+pub mod Lasts

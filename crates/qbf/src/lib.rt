@@ -1,0 +1,17 @@
+// The terms of quantified formulas that the code and the definitions share.
+
+// Who chooses a variable's value: an existential one is chosen for the formula, a universal one against it.
+#[derive(Clone, Copy, PartialEq, Eq, Debug)]
+pub enum Quantifier {
+    Existential,
+    Universal,
+}
+
+// What a chooser is shown of a variable: its prefix position, counted from 1,
+// and the numbers of clauses with its positive and with its negative literal.
+#[derive(Clone, Copy, PartialEq, Eq, Debug)]
+pub struct Candidate {
+    pub position: u16,
+    pub positive: u16,
+    pub negative: u16,
+}

@@ -1,0 +1,3 @@
+mod Bound
+mod Stored
+mod Lasting

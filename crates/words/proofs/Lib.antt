@@ -1,0 +1,6 @@
+pub mod Steps
+pub mod Digits
+pub mod Decimal
+pub mod Splits
+pub mod Openings
+pub mod Places
