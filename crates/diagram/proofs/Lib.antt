@@ -1,0 +1,6 @@
+pub mod Steps
+pub mod Parts
+pub mod Cofactors
+pub mod Settings
+pub mod Marks
+pub mod Chains

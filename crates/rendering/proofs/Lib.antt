@@ -1,0 +1,10 @@
+pub mod Blocks
+pub mod Costs
+pub mod Sums
+pub mod Lines
+pub mod Codes
+pub mod Stores
+pub mod Lengths
+pub mod Built
+pub mod Trips
+pub mod Onward

@@ -1,0 +1,3 @@
+pub mod Render
+pub mod Trip
+pub mod Sample

@@ -1,0 +1,4 @@
+pub mod Sides
+pub mod Ordered
+pub mod Laws
+pub mod Formed
