@@ -23,7 +23,7 @@ test-some : (b : Bool) (v : Bool) (o : Option Bool) → isSome (cond b (Some v) 
 test-some true v o = refl
 test-some false v o = refl
 
-some-listed : (ps : List Pair) (k : ℕ) → isSome (verdict-among ps k) ≡ mem k (numbers-of ps)
+pub some-listed : (ps : List Pair) (k : ℕ) → isSome (verdict-among ps k) ≡ mem k (numbers-of ps)
 some-listed [] k = refl
 some-listed (p ∷ ps) k = rw (test-some (eqb k (p .number)) (p .verdict) (verdict-among ps k), some-listed ps k)
 

@@ -4,3 +4,10 @@ pub mod Clauses
 pub mod Nodes
 pub mod Memo
 pub mod Chooser
+pub mod Value
+pub mod Reduce
+pub mod Walk
+pub mod NodeList
+pub mod Numbering
+pub mod Decision
+pub mod Run

@@ -1,4 +1,5 @@
-// The terms of quantified formulas that the code and the definitions share.
+// The terms of quantified formulas that the code and the definitions share. What a formula's value is, and how a set is reduced,
+// walked and decided over a node table and a memo, is defined in specs/.
 
 // Who chooses a variable's value: an existential one is chosen for the formula, a universal one against it.
 #[derive(Clone, Copy, PartialEq, Eq, Debug)]

@@ -1,0 +1,4 @@
+pub mod Grows
+pub mod Standing
+pub mod Sides
+pub mod Positions

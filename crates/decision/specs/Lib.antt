@@ -1,0 +1,4 @@
+pub mod Values
+pub mod Endings
+pub mod Steps
+pub mod Judging

@@ -1,0 +1,5 @@
+pub mod Answers
+pub mod Ledger
+pub mod Promises
+pub mod Laws
+pub mod Keeping

@@ -1,0 +1,10 @@
+pub mod Setting
+pub mod Reducing
+pub mod Walking
+pub mod Deciding
+pub mod Models
+pub mod Running
+pub mod Lines
+pub mod Blocks
+pub mod Repeating
+pub mod Making
