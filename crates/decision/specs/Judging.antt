@@ -5,7 +5,7 @@ use mathlib.Core.Bool.{Bool}
 use Prim.Native.Nat.{ℕ}
 use Rattle.qbf.specs.declared.Quantifier.{Quantifier}
 use Rattle.qbf.specs.declared.Candidate.{Candidate}
-use Rattle.qbf.specs.Memo.{Pairs, Empty}
+use Rattle.qbf.specs.Memo.{Pairs, Never-holds}
 use Rattle.qbf.specs.Walk.{bare}
 use Rattle.qbf.specs.Numbering.{Numbering}
 use Rattle.qbf.specs.Decision.{Ending, verdict, Right}
@@ -18,4 +18,4 @@ Stays-right held prefix pick allowance before memo s e done after kept =
 
 -- With a make of memo that never holds a pair, a verdict has exactly the splits of the bare walk.
 abbrev pub Unaided : {M : Type 0} → (M → Pairs) → List Quantifier → (List Candidate → ℕ) → List (List ℕ) → Ending → ℕ → Type 0
-Unaided {M} held prefix pick s e done = ((memo : M) → Empty (held memo)) → (b : Bool) → e ≡ verdict b → done ≡ bare pick prefix s .splits
+Unaided {M} held prefix pick s e done = Never-holds held → (b : Bool) → e ≡ verdict b → done ≡ bare pick prefix s .splits

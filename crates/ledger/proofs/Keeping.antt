@@ -14,7 +14,7 @@ use Rattle.qbf.specs.declared.Quantifier.{Quantifier}
 use Rattle.qbf.specs.declared.Candidate.{Candidate}
 use Rattle.qbf.specs.Lists.{In}
 use Rattle.qbf.specs.Nodes.{Crowded}
-use Rattle.qbf.specs.Memo.{Pairs, Kept, Empty}
+use Rattle.qbf.specs.Memo.{Pairs, Kept, Never-holds}
 use Rattle.qbf.specs.Numbering.{Numbering, capacity, Among, Gains}
 use Rattle.qbf.specs.Decision.{full, spent, too-deep, Ending, verdict, refused}
 use Rattle.sets.specs.Formed.{forming}
@@ -76,14 +76,14 @@ module _ {M : Type 0} (held : M → Pairs) (notes : M → ℕ → Bool → M →
   promised-at : (pick : List Candidate → ℕ) (l : Ledger) (f : Loaded-formula) (weighed : List (List (List ℕ))) (allowance splits : ℕ) (before after : Numbering) →
       Carried-out l allowance f → Subset (walk-of pick l f .made) weighed → All (Among weighed) after → (e : Ending) →
       Judged pick (quantifiers (l .prefix)) allowance 0 0 before (f .clauses) e splits after →
-      ((b : Bool) → e ≡ verdict b → ((memo : M) → Empty (held memo)) → splits ≡ walk-of pick l f .splits) →
-      Decision-promised pick ((memo : M) → Empty (held memo)) l weighed allowance (answer e splits)
+      ((b : Bool) → e ≡ verdict b → Never-holds held → splits ≡ walk-of pick l f .splits) →
+      Decision-promised pick (Never-holds held) l weighed allowance (answer e splits)
   promised-at pick l f weighed allowance splits before after c p w e j eq = at e refl
     where
       few : Few-splits (walk-of pick l f) allowance splits
       few = record { walked = omega (arith, j .most); allowed = j .allowed (omega arith) }
 
-      at : (d : Ending) → e ≡ d → Decision-promised pick ((memo : M) → Empty (held memo)) l weighed allowance (answer d splits)
+      at : (d : Ending) → e ≡ d → Decision-promised pick (Never-holds held) l weighed allowance (answer d splits)
       at (verdict b) i = promised-verdict f c (j .right b i) few (eq b i)
       at (refused spent) i = let d = j .deserved i in promised-spent f c (d .0) (omega (arith, d .1))
       at (refused full) i = promised-full f c few (overfull-crowded weighed _ p w (j .crowded i))

@@ -8,7 +8,7 @@ use Rattle.std.specs.declared.result.Result.the-variants.{Ok}
 use Rattle.qbf.specs.declared.Candidate.{Candidate}
 use Rattle.qbf.specs.Lists.{In}
 use Rattle.qbf.specs.Nodes.{Node, Crowded}
-use Rattle.qbf.specs.Memo.{Pairs, Empty}
+use Rattle.qbf.specs.Memo.{Pairs, Never-holds}
 use Rattle.qbf.specs.Chooser.{Picks}
 use Rattle.qbf.specs.Numbering.{Numbering, capacity, Among, Makes, Stops}
 use Rattle.qbf.specs.Decision.{Ending, Decides, Right}
@@ -47,7 +47,7 @@ Load-keeps =
 -- a decision of the loaded formula keeps its promises, if the table holds only nodes of the weighed sets and the memo is right,
 -- and then both are so again
 pub record Decision-kept {M : Type 0} (held : M → Pairs) (pick : List Candidate → ℕ) (l : Ledger) (allowance : ℕ) (e : Ending) (splits : ℕ) (after : Numbering) (kept : M) : Type 0 where
-  pub promised : Decision-promised pick ((memo : M) → Empty (held memo)) l (decides pick l allowance (l .formula) .weighed) allowance (answer e splits)
+  pub promised : Decision-promised pick (Never-holds held) l (decides pick l allowance (l .formula) .weighed) allowance (answer e splits)
   pub weighed : All (Among (decides pick l allowance (l .formula) .weighed)) after
   pub right : Right (quantifiers (l .prefix)) after (held kept)
 

@@ -95,8 +95,9 @@ abbrev pub Promises : (List Candidate → ℕ) → (never-holds : Type 0) → Li
 Promises pick never-holds [] = Unit {0}
 Promises pick never-holds (d ∷ history) = Promised pick never-holds history d × Promises pick never-holds history
 
--- Of a session whose memo keeps every pair that it is told: a verdict followed directly by a decision whose allowance is not too
--- large is answered again, without a split.
-abbrev pub Repeat-promised : List Dealing → (allowance : ℕ) → Decide-answer → Type 0
-Repeat-promised history allowance a =
-    (before : ℕ) (b : Bool) (n : ℕ) (earlier : List Dealing) → history ≡ decide before (found b n) ∷ earlier → allowance ≤ most-allowed → a ≡ found b 0
+-- Of a session whose memo always holds a pair just after it is noted, which `retains` says: a verdict followed directly by a
+-- decision whose allowance is not too large is answered again, without a split.
+abbrev pub Repeat-promised : (retains : Type 0) → List Dealing → (allowance : ℕ) → Decide-answer → Type 0
+Repeat-promised retains history allowance a =
+    retains → (before : ℕ) (b : Bool) (n : ℕ) (earlier : List Dealing) →
+    history ≡ decide before (found b n) ∷ earlier → allowance ≤ most-allowed → a ≡ found b 0

@@ -1,18 +1,13 @@
 -- What holds of the delivered memos beyond what every memo promises.
 use mathlib.Core.Path.{_≡_}
-use mathlib.Core.Bool.{Bool}
 use Prim.Native.Nat.{ℕ, _≤_}
-use Rattle.std.specs.declared.option.Option.the-variants.{Some}
-use Rattle.qbf.specs.Memo.{Pairs}
+use Rattle.qbf.specs.Memo.{Pairs, Retains}
 use Rattle.memos.specs.declared.keeping.Keeping.{Keeping}
 use Rattle.memos.specs.Notes.{Holding}
 use Rattle.memos.specs.Slots.{slotted-held, slotted-notes}
 use Rattle.memos.specs.Keeps.{keeping-held}
 
--- a note always leaves the noted pair
-abbrev pub Retains : {M : Type 0} → (M → Pairs) → (M → ℕ → Bool → M → Type 0) → Type 0
-Retains {M} held notes = (before : M) (n : ℕ) (v : Bool) (after : M) → notes before n v after → held after n ≡ Some v
-
+-- a note always leaves the noted pair in the slotted memo
 abbrev pub Slotted-retains : Type 0
 Slotted-retains = Retains slotted-held slotted-notes
 

@@ -17,3 +17,11 @@ Kept before n v after = (k : ℕ) (w : Bool) → after k ≡ Some w → ((k ≡ 
 -- no pair is held
 abbrev pub Empty : Pairs → Type 0
 Empty held = (k : ℕ) → held k ≡ None
+
+-- no memo of the type ever holds a pair
+abbrev pub Never-holds : {M : Type 0} → (M → Pairs) → Type 0
+Never-holds {M} held = (memo : M) → Empty (held memo)
+
+-- a pair is held just after it is noted, whatever else is forgotten
+abbrev pub Retains : {M : Type 0} → (M → Pairs) → (M → ℕ → Bool → M → Type 0) → Type 0
+Retains {M} held notes = (before : M) (n : ℕ) (v : Bool) (after : M) → notes before n v after → held after n ≡ Some v

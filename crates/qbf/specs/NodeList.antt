@@ -27,13 +27,13 @@ abbrev pub once : List (List (List ℕ)) → List (List (List ℕ))
 once [] = []
 once (x ∷ xs) = cond (listed x xs) (once xs) (x ∷ once xs)
 
--- the nodes of a set, the set itself first: at most n below one another
+-- the nodes of a set, at most n below one another: those of its sides first, as a table has them, and then the set itself
 unfoldable pub nodes-within : ℕ → List (List ℕ) → List (List (List ℕ))
 nodes-within n [] = []
 nodes-within n ([] ∷ s) = []
 nodes-within zero ((k ∷ c) ∷ s) = []
 nodes-within (suc n) ((k ∷ c) ∷ s) =
-    ((k ∷ c) ∷ s) ∷ (nodes-within n (with-side k ((k ∷ c) ∷ s)) ++ nodes-within n (without-side k ((k ∷ c) ∷ s)))
+    nodes-within n (with-side k ((k ∷ c) ∷ s)) ++ (nodes-within n (without-side k ((k ∷ c) ∷ s)) ++ (((k ∷ c) ∷ s) ∷ []))
 
 -- the nodes of a set; one may stand there several times
 abbrev pub nodes : List (List ℕ) → List (List (List ℕ))

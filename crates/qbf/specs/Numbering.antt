@@ -9,7 +9,8 @@ use Rattle.std.specs.declared.option.Option.the-variants.{Some, None}
 use Rattle.qbf.specs.Lists.{In, Distinct}
 use Rattle.qbf.specs.Nodes.{Node}
 
--- the sets of the numbers 2, 3, .. in order
+-- The sets of the numbers 2, 3, .. in order. It is read off a node table, whose own rules say more: both sides of a node have
+-- lower numbers than it, and no two nodes agree.
 abbrev pub Numbering : Type 0
 Numbering = List (List (List ℕ))
 

@@ -18,7 +18,7 @@ use Rattle.qbf.specs.NodeList.{same-set, listed, nodes}
 use Rattle.qbf.specs.Numbering.{Numbering, capacity}
 use Rattle.qbf.specs.Decision.{full, spent, too-deep, Ending, verdict, refused, most-open}
 
--- the table after an attempt to make sets, and whether it was full before all were made
+-- the table after an attempt to make sets, and whether all of them were made
 pub record Attempt : Type 0 where
   pub table : Numbering
   pub done : Bool

@@ -1,6 +1,6 @@
 -- The nodes of sets, as a list.
 use mathlib.Core.Path.{_≡_, refl, sym, _∙_, ap}
-use mathlib.Core.List.{List, [], _∷_}
+use mathlib.Core.List.{List, [], _∷_, _++_}
 use mathlib.Core.Bool.{Bool}
 use mathlib.Core.Logic.{_⊎_, inl, inr, _↔_}
 use Prim.Native.Nat.{ℕ, zero, suc, _<_, _≤_}
@@ -16,6 +16,7 @@ use Rattle.qbf.specs.Reduce.{size}
 use Rattle.qbf.specs.Nodes.{with-side, without-side, Node, node-itself, node-with, node-without, Crowded}
 use Rattle.qbf.specs.NodeList.{equal-by, same-set, listed, once, nodes-within, nodes, nodes-of-all}
 use Rattle.sets.proofs.Words.{all-in}
+use Rattle.theory.specs.Running.{Nodes-listed}
 use Rattle.theory.proofs.Tables.{in-append, in-append-left, in-append-right}
 
 -- pigeons
@@ -83,20 +84,22 @@ nodes-are (suc n) [] x h = absurd h
 nodes-are zero ([] ∷ s) x h = absurd h
 nodes-are (suc n) ([] ∷ s) x h = absurd h
 nodes-are zero ((k ∷ c) ∷ s) x h = absurd h
-nodes-are (suc n) ((k ∷ c) ∷ s) x (inl e) = node-itself e
-nodes-are (suc n) ((k ∷ c) ∷ s) x (inr h) = elim (in-append x (nodes-within n (with-side k ((k ∷ c) ∷ s))) (nodes-within n (without-side k ((k ∷ c) ∷ s))) h) [
+nodes-are (suc n) ((k ∷ c) ∷ s) x h = elim (in-append x (nodes-within n (with-side k ((k ∷ c) ∷ s))) (nodes-within n (without-side k ((k ∷ c) ∷ s)) ++ (((k ∷ c) ∷ s) ∷ [])) h) [
   | inl i ↦ node-with (nodes-are n (with-side k ((k ∷ c) ∷ s)) x i)
-  | inr i ↦ node-without (nodes-are n (without-side k ((k ∷ c) ∷ s)) x i)
+  | inr j ↦ elim (in-append x (nodes-within n (without-side k ((k ∷ c) ∷ s))) (((k ∷ c) ∷ s) ∷ []) j) [
+    | inl i ↦ node-without (nodes-are n (without-side k ((k ∷ c) ∷ s)) x i)
+    | inr i ↦ elim i [ inl e ↦ node-itself e | inr z ↦ absurd z ]
+  ]
 ]
 
 pub nodes-all : {x s : List (List ℕ)} → Node x s → (n : ℕ) → size s ≤ n → In x (nodes-within n s)
 unfolding nodes-within
 nodes-all (node-itself {k} {c} {s} e) zero h = absurd (omega arith)
-nodes-all (node-itself {k} {c} {s} e) (suc n) h = inl e
+nodes-all {x} (node-itself {k} {c} {s} e) (suc n) h = in-append-right x (nodes-within n (with-side k ((k ∷ c) ∷ s))) (nodes-within n (without-side k ((k ∷ c) ∷ s)) ++ (((k ∷ c) ∷ s) ∷ [])) (in-append-right x (nodes-within n (without-side k ((k ∷ c) ∷ s))) (((k ∷ c) ∷ s) ∷ []) (inl e))
 nodes-all (node-with {k} {c} {s} m) zero h = absurd (omega arith)
-nodes-all {x} (node-with {k} {c} {s} m) (suc n) h = let z = size-sides k c s in inr (in-append-left x _ _ (nodes-all m n (omega arith)))
+nodes-all {x} (node-with {k} {c} {s} m) (suc n) h = let z = size-sides k c s in in-append-left x (nodes-within n (with-side k ((k ∷ c) ∷ s))) (nodes-within n (without-side k ((k ∷ c) ∷ s)) ++ (((k ∷ c) ∷ s) ∷ [])) (nodes-all m n (omega arith))
 nodes-all (node-without {k} {c} {s} m) zero h = absurd (omega arith)
-nodes-all {x} (node-without {k} {c} {s} m) (suc n) h = let z = size-sides k c s in inr (in-append-right x _ _ (nodes-all m n (omega arith)))
+nodes-all {x} (node-without {k} {c} {s} m) (suc n) h = let z = size-sides k c s in in-append-right x (nodes-within n (with-side k ((k ∷ c) ∷ s))) (nodes-within n (without-side k ((k ∷ c) ∷ s)) ++ (((k ∷ c) ∷ s) ∷ [])) (in-append-left x (nodes-within n (without-side k ((k ∷ c) ∷ s))) (((k ∷ c) ∷ s) ∷ []) (nodes-all m n (omega arith)))
 
 pub in-nodes-of-all : (x : List (List ℕ)) (w : List (List (List ℕ))) → In x (nodes-of-all w) → (s : List (List ℕ)) × In s w × Node x s
 in-nodes-of-all x [] h = absurd h
@@ -120,3 +123,6 @@ crowded-counts n w = (there, back)
 
     back : n < length (once (nodes-of-all w)) → Crowded n w
     back h = record { list = once (nodes-of-all w); long = h; apart = once-distinct (nodes-of-all w); nodes = all-from-in _ (once (nodes-of-all w)) (λ x i. in-nodes-of-all x w (once-in x (nodes-of-all w) .0 i)) }
+
+pub nodes-listed : Nodes-listed
+nodes-listed s x = (nodes-are (size s) s x, λ n. nodes-all n (size s) (omega arith))

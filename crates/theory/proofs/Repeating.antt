@@ -13,13 +13,12 @@ use Rattle.qbf.specs.declared.Quantifier.{Quantifier}
 use Rattle.qbf.specs.declared.Candidate.{Candidate}
 use Rattle.qbf.specs.Lists.{In, Distinct}
 use Rattle.qbf.specs.Nodes.{Node}
-use Rattle.qbf.specs.Memo.{Pairs}
+use Rattle.qbf.specs.Memo.{Pairs, Retains}
 use Rattle.qbf.specs.Clauses.{assigned, setting}
 use Rattle.qbf.specs.Value.{none}
 use Rattle.qbf.specs.Reduce.{has-empty, Step, stuck, forced, step, Outcome, decided, left, Reduced, resume, reduce}
 use Rattle.qbf.specs.Numbering.{Numbering, nth, stands, Among, Makes, Stops}
 use Rattle.qbf.specs.Decision.{Ending, verdict, Reduces-in, settles, sticks, forces, fills, Unknown, Splits, Decides, by-reducing, full-reducing, recalled, by-allowance, by-depth, full-first, refused-first, first-only, full-second, refused-second, both-sides}
-use Rattle.memos.specs.Laws.{Retains}
 use Rattle.theory.specs.Repeating.{Known, known-reduced, known-held, Settled, Decision-settles, Same, Decision-repeats}
 use Rattle.sets.proofs.Words.{all-in}
 use Rattle.theory.proofs.Reducing.{Rule, by-empty, by-none, by-unit-universal, by-unit, by-lone, by-lone-universal, by-nothing, step-rule}

@@ -7,7 +7,7 @@ use lib.ListN.{length}
 use Rattle.qbf.specs.declared.Quantifier.{Quantifier}
 use Rattle.qbf.specs.declared.Candidate.{Candidate}
 use Rattle.qbf.specs.Lists.{In, Distinct}
-use Rattle.qbf.specs.Memo.{Pairs, Empty}
+use Rattle.qbf.specs.Memo.{Pairs, Never-holds}
 use Rattle.qbf.specs.Chooser.{Picks}
 use Rattle.qbf.specs.Value.{value}
 use Rattle.qbf.specs.Walk.{bare}
@@ -48,7 +48,7 @@ Decision-right {M} held notes =
 -- with a memo that never holds a pair, a verdict has exactly the splits of the bare walk
 abbrev pub Decision-blank : {M : Type 0} → (M → Pairs) → (M → ℕ → Bool → M → Type 0) → Type 0
 Decision-blank {M} held notes =
-    ((memo : M) → Empty (held memo)) →
+    Never-holds held →
     (pick : List Candidate → ℕ) → Picks pick → (prefix : List Quantifier) (allowance depth splits done : ℕ) (before after : Numbering) (memo kept : M) (s : List (List ℕ)) (b : Bool) →
     Decides held notes prefix pick allowance depth splits before memo s (verdict b) done after kept →
     (b ≡ bare pick prefix s .verdict) × (done ≡ splits + bare pick prefix s .splits)

@@ -8,11 +8,10 @@ use Rattle.qbf.specs.declared.Quantifier.{Quantifier}
 use Rattle.qbf.specs.declared.Candidate.{Candidate}
 use Rattle.qbf.specs.Lists.{In, Distinct}
 use Rattle.qbf.specs.Nodes.{Node}
-use Rattle.qbf.specs.Memo.{Pairs}
+use Rattle.qbf.specs.Memo.{Pairs, Retains}
 use Rattle.qbf.specs.Reduce.{decided, left, reduce}
 use Rattle.qbf.specs.Numbering.{Numbering, stands}
 use Rattle.qbf.specs.Decision.{Ending, verdict, Decides}
-use Rattle.memos.specs.Laws.{Retains}
 
 -- the verdict is known: reducing the set gives it, or a pair has it for the reduced set
 pub data Known (prefix : List Quantifier) (s : List (List ℕ)) (b : Bool) (pairs : Pairs) (table : Numbering) : Type 0 where
