@@ -2,21 +2,12 @@
 ghost use mathlib.Core.Path.{_≡_};
 ghost use Prim.Native.Nat.{_<_};
 ghost use Rattle.std.specs.shelf.Lists.{All};
-ghost use Rattle.qbf.specs.Literals.{complement};
 ghost use Rattle.qbf.specs.Lists.{Distinct};
 ghost use Rattle.clause.specs.Once.{once, both-signs, same-set};
 ghost use Rattle.clause.specs.Codes.{codesOf};
 use crate::Clause;
 use crate::marks::Marks;
-
-// The same variable with the other sign.
-fn complement_of(code: u16) -> u16
-    requires { ⌜ code < 512 ⌝ }
-    ensures value { λ r. ⌜ r ≡ complement code ⌝ }
-    ensures bound { λ r. ⌜ r < 512 ⌝ }
-{
-    code + 1 - 2 * (code % 2)
-}
+use qbf::opposite;
 
 impl Clause {
     // The clause of the literals as they were written: a repeated literal is dropped.
@@ -34,7 +25,7 @@ impl Clause {
             if marks.has(code) {
                 continue;
             }
-            if marks.has(complement_of(code)) {
+            if marks.has(opposite(code)) {
                 both_signs = true;
             }
             marks.add(code);

@@ -1,24 +1,13 @@
 // The setting of a literal.
 ghost use mathlib.Core.Path.{_≡_};
 ghost use Rattle.qbf.specs.Clauses.{assigned, setting};
-ghost use Rattle.qbf.specs.Literals.{complement};
 ghost use Rattle.table.specs.Tables.{Number, clauses, Makes-all};
 use crate::literal::lacking;
 use crate::literal::taken_out;
 use crate::pair::union;
+use qbf::opposite;
 use table::Full;
 use table::Table;
-
-// The literal of the same variable with the other sign.
-fn opposite(literal: u16) -> u16
-    ensures { λ r. ⌜ r ≡ complement literal ⌝ }
-{
-    if literal % 2 == 0 {
-        literal + 1
-    } else {
-        literal - 1
-    }
-}
 
 // The set with the literal set true: the clauses that hold it go, and its complement is taken out of the others.
 // Four sets are made, in order; a refusal leaves those before the one that there is no room for.

@@ -14,6 +14,7 @@ use formula::Binding;
 use formula::Prefix;
 use qbf::Quantifier;
 use qbf::QuantifierPartialEq;
+use qbf::opposite;
 use survey::Counts;
 use survey::Units;
 use survey::count_literals;
@@ -27,17 +28,6 @@ pub(crate) enum Step {
     Settled(bool),
     Forced(u16),
     Stuck,
-}
-
-// The literal of the same variable with the other sign.
-fn opposite(literal: u16) -> u16
-    ensures { λ r. ⌜ r ≡ complement literal ⌝ }
-{
-    if literal % 2 == 0 {
-        literal + 1
-    } else {
-        literal - 1
-    }
 }
 
 // The lowest literal that is a clause of its own and whose variable has the quantifier.

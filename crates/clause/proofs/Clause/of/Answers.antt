@@ -19,8 +19,8 @@ small xs i lt a = all-getD (λ x. x < 512) xs i 0 lt a
 pub has-requires : need.has-requires
 has-requires c κs = small _ _ (c .loop-literal-test .taken) (c .pre)
 
-pub complement-of-requires : need.complement-of-requires
-complement-of-requires c κs = small _ _ (c .loop-literal-test .taken) (c .pre)
+pub has-requires-in-loop-literal : need.has-requires-in-loop-literal
+has-requires-in-loop-literal c κs = let h = small _ _ (c .loop-literal-test .taken) (c .pre) in omega (arith, c .opposite .ensures)
 
 pub add-requires : need.add-requires
 add-requires c κs = small _ _ (c .loop-literal-test .taken) (c .pre)
@@ -52,7 +52,7 @@ index-codes-len c = room c
 -- the flag after the test for the complement
 flag : (c : need.After-add) → c .if-has-2 .both-signs ≡ (c .loop-literal .both-signs || getD (c .loop-literal .marks .at) (complement (getD (c .args .literals .now) (c .loop-literal .literal-index) 0)) false)
 flag c =
-    let found = sym (ap (λ (k : ℕ). getD (c .loop-literal .marks .at) k false) (c .complement-of .ensures .value)) ∙ sym (c .has-in-loop-literal .ensures) in
+    let found = sym (ap (λ (k : ℕ). getD (c .loop-literal .marks .at) k false) (c .opposite .ensures)) ∙ sym (c .has-in-loop-literal .ensures) in
     elim (c .if-has-2 .came) [
       | then-has-2 w ↦ w .both-signs-is ∙ raised (c .loop-literal .both-signs) _ (found ∙ w .if-has-2 .taken)
       | else-has-2 w ↦ w .both-signs-is ∙ unraised (c .loop-literal .both-signs) _ (found ∙ w .if-has-2 .left)

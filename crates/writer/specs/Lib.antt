@@ -1,0 +1,4 @@
+pub mod Puts
+pub mod Lines
+pub mod Paths
+pub mod Written
