@@ -108,11 +108,13 @@ length-stored written =
     let c : length (map once written) ≡ length written = simp length-map in
     omega arith
 
+pub codes-stored : (P : ℕ → Type 0) (written : List (List ℕ)) → All (All P) written → All (All P) (storeAll [] written)
+codes-stored P written a =
+    all-left (All P) (stored-stands written .in-order) (all-map (All P) once written (all-weaker (All P) (λ c. All P (once c)) (once-all P) written a))
+
 pub codes-formed : (P : ℕ → Type 0) (written : List (List ℕ)) → All (All P) written → All (All P) (formed [] (storeAll [] written))
 codes-formed P written a =
-    let m = all-map (All P) once written (all-weaker (All P) (λ c. All P (once c)) (once-all P) written a) in
-    let k = all-left (All P) (stored-stands written .in-order) m in
-    all-formed (All P) [] (storeAll [] written) tt (all-weaker (All P) (λ c. All P (clause-of c)) (all-clause P) (storeAll [] written) k)
+    all-formed (All P) [] (storeAll [] written) tt (all-weaker (All P) (λ c. All P (clause-of c)) (all-clause P) (storeAll [] written) (codes-stored P written a))
 
 one-sign : (c : List ℕ) → both-signs c ≡ false → both-signs (clause-of c) ≡ false
 one-sign c b = on (both-signs (clause-of c)) refl
