@@ -1,2 +1,3 @@
 pub mod Facts
 pub mod Lengths
+pub mod Crowds

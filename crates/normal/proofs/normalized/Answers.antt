@@ -7,6 +7,7 @@ use Rattle.std.proofs.shelf.Results.{err-from-errBy}
 use Rattle.formula.specs.Views.{reading, bindingsOf}
 use Rattle.rendering.specs.Render.{render}
 use Rattle.writer.specs.Written.{Written, Short}
+use Rattle.normal.proofs.Crowds.{crowded}
 use Rattle.normal.proofs.Facts.{stored-coded, set-within, set-few}
 use Rattle.normal.proofs.normalized.Needs as need
 
@@ -18,14 +19,9 @@ returns-in-Break-number c =
     let f = c .in-Continue-formula .formula in
     let p = err-from-errBy (c .from-residual-in-Break-number .result) (c .from-residual-in-Break-number .ensures .1) in
     rw (p .1, p .2) (
-      record {
-        f = reading f;
-        format = c .in-Continue-formula .ensures tt .accepted (reading f) .0 refl;
-        empty = c .new-table .result;
-        no-nodes = c .new-table .ensures;
-        full = c .store-clauses .last .table;
-        stopped = c .in-Break-number .ensures tt .cases;
-      },
+      reading f,
+      c .in-Continue-formula .ensures tt .accepted (reading f) .0 refl,
+      crowded (c .new-table .result) _ (c .store-clauses .last .table) (c .new-table .ensures) (c .in-Break-number .ensures tt .cases),
       refl,
     )
 
