@@ -1,5 +1,7 @@
 // Tries the bounds of a session from both sides, and prints what came: the greatest V, the greatest C, the longest text, the
 // largest allowance, and one more of each.
+#![tactic(auto)]
+
 use choosers::first::First;
 use memos::keeping::Keeping;
 use runs::Answer;

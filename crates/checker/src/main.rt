@@ -1,5 +1,7 @@
 // Reads a formula text from standard input, and prints what the reader answers:
 // `c read V C` for an accepted text, `c refused N at P` for a refusal.
+#![tactic(auto)]
+
 use input::fill;
 use reader::read;
 use std::io;

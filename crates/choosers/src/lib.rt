@@ -1,5 +1,7 @@
 // Choosers: which candidate a decision splits on. The trait says what every chooser promises, so that a decision is proved
 // once for all of them; the two choosers here also say which candidate they pick.
+#![tactic(auto)]
+
 ghost use Rattle.std.specs.Prelude.{◌≡◌, ℕ, ◌<◌, List, length};
 ghost use Rattle.qbf.specs.declared.Candidate.{Candidate};
 ghost use Rattle.qbf.specs.Chooser.{Picks};

@@ -1,6 +1,8 @@
 // A clause as it was written, taken literal by literal: each literal once, and whether a variable stands in it with both signs.
 // Literals are codes below 512, 2 * v for the positive and 2 * v + 1 for the negative literal of the variable v.
 // Two clauses can be compared as sets of literals, in time linear in their lengths.
+#![tactic(auto)]
+
 ghost use Rattle.std.specs.Prelude.{◌≡◌, ℕ, ◌<◌, ◌≤◌, false, length, take, ◌≢◌, slice_index, slice_index_or};
 ghost use Rattle.qbf.specs.Lists.{mem};
 ghost use Rattle.clause.specs.Once.{OnceStands};

@@ -1,6 +1,8 @@
 // The memoised decision of a set of the table: the bare walk, with a memo of verdicts and an allowance of splits.
 // It is proved once for every memo and every chooser. Its contract is a relation that pins each recall, note, split and set made;
 // with a memo whose pairs are right the verdict is the value by full expansion, at no more splits than the bare walk's.
+#![tactic(auto)]
+
 ghost use Rattle.std.specs.Prelude.{◌≤◌};
 ghost use Rattle.qbf.specs.Decision.{Decides};
 ghost use Rattle.table.specs.Tables.{clauses};

@@ -3,6 +3,8 @@
 // An operation answers the number of its set. The table gains the nodes of that set and no others;
 // a table without room for them refuses, and every number that it had keeps its set.
 // A node is visited at most once for each clause through it, and a recursion goes no deeper than there are codes.
+#![tactic(auto)]
+
 mod assignment;
 mod clause;
 mod literal;

@@ -1,5 +1,7 @@
 // Small formulas made in a table, with the number of nodes of their sets: the tests of crates table, diagram and survey.
 // The variable v has the codes 2 v - 2 for its positive literal and 2 v - 1 for its negative one.
+#![tactic(auto)]
+
 ghost use Rattle.std.specs.Prelude.{◌<◌, IfOk};
 ghost use Rattle.table.specs.Tables.{Number};
 

@@ -1,5 +1,7 @@
 // Small formulas and histories worked through: what the definitions of the value, of reducing, of the bare walk, of a decision
 // and of the ledger come to on them. Each group is one joint statement, proved by computing.
+#![tactic(auto)]
+
 ghost use Rattle.examples.specs.Examples.{Examples};
 ghost use Rattle.examples.specs.Histories.{Histories};
 ghost use Rattle.memos.specs.Rows.{verdict_among};

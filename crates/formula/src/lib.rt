@@ -2,6 +2,8 @@
 // in fixed arrays that hold every text of at most 60,000 bytes.
 //
 // Each method says what the lists that the arrays stand for become: bindings in prefix order, clauses in the order written.
+#![tactic(auto)]
+
 mod blank;
 mod clauses;
 mod prefix;

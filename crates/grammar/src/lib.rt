@@ -1,6 +1,8 @@
 // The text format: which texts there are and which formula each one is, as a grammar over words and lines;
 // the rules by which a text is refused, each stated on its own; and the theorem that going through
 // the words one by one decides both.
+#![tactic(auto)]
+
 mod fault;
 mod numbers;
 mod place;

@@ -2,6 +2,8 @@
 // that the promises of `ledger` are kept at every place of every history, for every memo and every chooser.
 //
 // Nothing here runs: the functions' contracts are theorems about the definitions, which the session's calls are proved against.
+#![tactic(auto)]
+
 ghost use Rattle.histories.specs.Laws.{HistoriesStand, PromisesKept, DealingsHonest};
 
 use memos::Memo;

@@ -1,4 +1,6 @@
 // Standard input for the programs: a buffer is filled with what comes, up to its length.
+#![tactic(auto)]
+
 ghost use Rattle.std.specs.Prelude.{◌≤◌, length, IfOk};
 
 use std::io;

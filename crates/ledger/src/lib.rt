@@ -3,6 +3,8 @@
 //
 // The functions' contracts are theorems: that the ledger follows from the calls, and that a decision and the sets of a load,
 // over a table of weighed nodes and with a right memo, keep the promises.
+#![tactic(auto)]
+
 ghost use Rattle.ledger.specs.Keeping.{MakingWeighed, MakingCrowded, LoadKeeps, DecisionKeeps};
 ghost use Rattle.ledger.specs.Laws.{PrefixTold, CallsEnter, FormulaStands};
 

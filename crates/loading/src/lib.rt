@@ -2,6 +2,8 @@
 // and after it the set of those so far.
 // The answer is the number of the whole set. A table without room for one of the sets refuses;
 // the sets before that one are then made, and every number that the table had keeps its set.
+#![tactic(auto)]
+
 ghost use Rattle.std.specs.Prelude.{◌<◌, []};
 ghost use Rattle.std.specs.List.{AllByRecursion as All};
 ghost use Rattle.formula.specs.Views.{clauses_of};

@@ -1,5 +1,7 @@
 // The lookup of a record by its key over any lent records: the nodes of a table by code and sides, the pairs of a memo by number.
 // It tells the first place that has the key, or that no record has it, and changes nothing.
+#![tactic(auto)]
+
 ghost use Rattle.std.specs.Prelude.{◌<◌, length, Decides, MatchOption};
 ghost use Rattle.std.specs.List.{HoldsAt, AllWithin};
 

@@ -1,5 +1,7 @@
 // Memos: what earlier decisions found, by node number. The trait says what every memo promises, so that a decision is
 // proved once for all of them; the three memos here also say exactly which pairs they hold after a note.
+#![tactic(auto)]
+
 ghost use Rattle.std.specs.Prelude.{◌≡◌, ℕ, Bool};
 ghost use Rattle.qbf.specs.Memo.{Pairs, Kept, Empty};
 

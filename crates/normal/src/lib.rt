@@ -1,6 +1,8 @@
 // A text in the writer's form: it is read, its clauses are made as a set in a table of its own, and the formula is written.
 // The text goes to the front of the caller's buffer, of which the rest stays as it is.
 // Where the text is refused, the table is too small for its clauses, or the buffer is too short, the buffer is not touched.
+#![tactic(auto)]
+
 mod fault;
 
 ghost use Rattle.normal.specs.Normal.{Normal};

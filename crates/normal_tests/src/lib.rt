@@ -1,4 +1,6 @@
 // Texts written in the writer's form, byte by byte, with what becomes of the whole buffer. The expected bytes are worked out by hand.
+#![tactic(auto)]
+
 #[cfg(test)]
 mod tests {
     use normal::{Unwritten, normalized};

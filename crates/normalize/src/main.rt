@@ -1,5 +1,7 @@
 // Reads a formula text from standard input, and prints it in the writer's form; or `c refused N at P` where the reader
 // refuses it, with the number of the rule and the offset, or `c refused 10 at 0` where the table cannot hold its clauses.
+#![tactic(auto)]
+
 ghost use Rattle.std.specs.Prelude.{◌≤◌, length, IfOk};
 
 use input::fill;

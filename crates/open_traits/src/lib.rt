@@ -1,5 +1,7 @@
 // Shows that the traits of memos and choosers are open: a memo and a chooser of other makes, code that takes any of them,
 // and small histories with all of them. Nothing else depends on this crate.
+#![tactic(auto)]
+
 ghost use Rattle.std.specs.Prelude.{◌≡◌, Bool, length, Some, None, MatchOption};
 ghost use Rattle.memos.specs.Slots.{slotted_notes};
 ghost use Rattle.qbf.specs.Chooser.{Listed};

@@ -1,5 +1,7 @@
 // The terms of quantified formulas that the code and the definitions share. What a formula's value is, and how a set is reduced,
 // walked and decided over a node table and a memo, is defined in specs/.
+#![tactic(auto)]
+
 ghost use Rattle.std.specs.Prelude.{◌≡◌};
 ghost use Rattle.qbf.specs.Literals.{complement};
 

@@ -2,6 +2,8 @@
 //
 // A text that has the format becomes its formula; any other is refused by the earliest rule that it breaks, with its place.
 // Nothing is allocated: the arrays hold every text of at most 60,000 bytes.
+#![tactic(auto)]
+
 mod clauses;
 mod ends;
 mod head;

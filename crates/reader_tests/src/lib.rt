@@ -2,6 +2,8 @@
 // of texts that are not. The expected values are worked out from the format, and the line above each says why.
 //
 // Accepted texts are held to the whole formula; the texts at the limits of bytes and clauses are built in code.
+#![tactic(auto)]
+
 #[cfg(test)]
 mod accepted;
 #[cfg(test)]

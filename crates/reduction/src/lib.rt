@@ -1,6 +1,8 @@
 // Reducing a set of the table by the rules for one-literal clauses and lone literals, and what a reduced set can be split at.
 // Each answer is the definition's: the same lines in the same order, the same sets made, the same candidates.
 // The table only grows: every number that it had keeps its set, also where it is full.
+#![tactic(auto)]
+
 ghost use Rattle.reduction.specs.Numbered.{NumbersStand};
 
 mod block;

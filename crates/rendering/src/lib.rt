@@ -1,6 +1,8 @@
 // The text that is written of a formula, and what is proved of it: written of a formula that was read, it is no longer than
 // the text that was read, it has the format, reading it gives the same number of variables, prefix and set of clauses,
 // and writing those gives the same text.
+#![tactic(auto)]
+
 ghost use Rattle.rendering.specs.Sample.{SampleStands};
 ghost use Rattle.rendering.specs.Trip.{BlocksStand, RoundTrip};
 

@@ -1,4 +1,6 @@
 // Scripts with all that is told of them, worked out by hand.
+#![tactic(auto)]
+
 #[cfg(test)]
 mod tests {
     use replaying::output;

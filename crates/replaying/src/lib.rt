@@ -9,6 +9,8 @@
 //
 // The contract of `output` is the law over whole scripts: what is told is the answers of a run by the calls that are spelled in
 // the script, up to the place where none is spelled any more.
+#![tactic(auto)]
+
 mod making;
 mod telling;
 mod whole;

@@ -2,6 +2,8 @@
 //
 // The contract of `run` is the law over whole runs: at every place of the list, and for every memo and every chooser, the answer
 // is the one that the session's calls owe after the dealings before it.
+#![tactic(auto)]
+
 mod answer;
 mod running;
 mod transcript;

@@ -9,6 +9,7 @@
 // Every line ends in byte 10, one space stands between words, and numbers are decimal without needless zeros. A call is
 // read exactly where one is spelled, and a script up to the place where none is spelled any more. What is read spells
 // the text up to there, byte for byte, and no text spells two calls at its front.
+#![tactic(auto)]
 
 mod calling;
 pub mod calls;

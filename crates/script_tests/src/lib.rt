@@ -1,4 +1,6 @@
 // Scripts with their calls, and scripts that are spelled wrong with the place where they stop. All is worked out by hand.
+#![tactic(auto)]
+
 #[cfg(test)]
 mod tests {
     use script::{Call, ChooserKind, Make, MemoKind, Space, read_call, read_make, read_script};

@@ -3,6 +3,8 @@
 // The contract of every call pins its answer and all that it leaves. It also says, for every history of dealings since `new` that
 // led to the session, refused ones included: the answer keeps the promises by that history's ledger, and the history with this
 // dealing leads to the session after it. No call asks anything of its caller, allocates, or fails.
+#![tactic(auto)]
+
 ghost use Rattle.session.specs.Laws.{FaultsTold};
 
 mod answer;

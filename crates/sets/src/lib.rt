@@ -1,5 +1,7 @@
 // The laws of clause sets that the diagrams rest on: which clauses an operation's set has,
 // that each operation keeps the one form of a set, and that sets with the same clauses are equal.
+#![tactic(auto)]
+
 ghost use Rattle.sets.specs.Formed.{FormedStands};
 ghost use Rattle.sets.specs.Laws.{UnionMembers, LackingMembers, HoldingMembers, OccursCounted, TakenOutMembers, AssignedMembers, FormsStay, OneForm, SidesMake, FewMade, ClauseMembers};
 

@@ -1,5 +1,7 @@
 // What the reducing of a set asks of it: whether the empty clause is in it, which literals stand alone in a clause,
 // and in how many clauses each literal occurs. The table is only read.
+#![tactic(auto)]
+
 mod counts;
 mod empties;
 mod units;

@@ -1,6 +1,8 @@
 // The table of a zero-suppressed decision diagram: at most 4,096 nodes, each with a code and two sides.
 // A number of the table stands for a set of clauses: 0 for the empty set, 1 for the set of only the empty clause,
 // and the numbers from 2 on for the nodes. No two numbers stand for one set, and a number keeps its set as the table grows.
+#![tactic(auto)]
+
 ghost use Rattle.table.specs.Laws.{EndsStand, SetsFormed, SetsCoded, NumbersApart, NodesReached, FullCrowds};
 
 mod index;

@@ -1,6 +1,8 @@
 // The theory of quantified formulas: the contract of each function here is a theorem about the definitions of crate `qbf`.
 // Reducing keeps the value by full expansion and ends; so does the bare walk, whatever a chooser picks; a decision whose memo
 // is right gives that value, within the splits and the sets of the bare walk.
+#![tactic(auto)]
+
 ghost use Rattle.memos.specs.Rows.{verdict_among};
 ghost use Rattle.theory.specs.Blocks.{BlocksRun, CandidatesScanned};
 ghost use Rattle.theory.specs.Deciding.{DecisionRight, DecisionBlank};

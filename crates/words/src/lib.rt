@@ -3,6 +3,7 @@
 // Spaces and line ends alone divide words. Ahead of the first word, the lines that begin with the letter c are
 // comments and hold no words. A scanner gives the words of a text one by one, and none besides; a word is read as a
 // number or a literal exactly if it is written as one in decimal, without needless zeros.
+#![tactic(auto)]
 
 pub mod literals;
 pub mod numbers;

@@ -3,6 +3,8 @@
 //
 // A verdict is the value, by full expansion, of the formula that the text has by the grammar; a refusal is answered only in its
 // own case. No call asks anything of its caller, allocates or fails.
+#![tactic(auto)]
+
 ghost use Rattle.zulfringa.specs.Laws.{SessionsCheck};
 
 mod checking;
