@@ -36,6 +36,9 @@ OTHER = {
     "words-stand": "words_stand_lem",
 }
 
+# Lemmas of std that a proof's first word is read as a definition of.
+LIBRARY = ("All-map", "All-weaker", "All-from_get_or")
+
 
 def files(ending):
     for folder, dirs, names in os.walk(os.path.join(TOP, "crates")):
@@ -102,7 +105,7 @@ def main(dry):
                 generated |= set(m[1].split(".")[1:3])
     for name, is_type in types.items():
         new = turned(name, is_type)
-        if new != name:
+        if new != name and name not in LIBRARY:
             names[name] = new
     words = collections.Counter()
     for text in list(texts.values()) + list(sources.values()):

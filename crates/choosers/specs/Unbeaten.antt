@@ -4,7 +4,7 @@ use Rattle.std.proofs.Common.{sym, ap, subst, ◌∙◌, inl, inr, ⊎_elim, ari
 use Rattle.std.specs.List.{AllByRecursion as All, best_of}
 use Rattle.std.specs.Cmp.{IsStrictWeakOrder}
 use Rattle.std.proofs.lemmas.List.MinMax.{IsStrictWeakOrder-by_number, IsFirstBest-from_best_of}
-use Rattle.std.proofs.ByRecursion.{AllFrom_get_or, AllWeaker}
+use Rattle.std.proofs.ByRecursion.{All-from_get_or, All-weaker}
 use Rattle.std.proofs.lemmas.List.{at_drop_more, at_drop_all}
 use Rattle.std.proofs.lemmas.Bool.{ltb-false}
 use Rattle.std.proofs.lemmas.Bool.Decides.{nat_tests}
@@ -32,7 +32,7 @@ module _ (beats : Candidate → Candidate → Bool) (ranks : IsStrictWeakOrder b
   best_unbeaten : All (λ d. beats d (best_of beats c cs) ≡ false) (c ∷ cs)
   best_unbeaten =
       let b = IsFirstBest-from_best_of ranks c cs in
-      subst (λ x. All (λ d. beats d x ≡ false) (c ∷ cs)) b.2 (AllFrom_get_or _ (c ∷ cs) c (λ k h. b.1.1 k c h))
+      subst (λ x. All (λ d. beats d x ≡ false) (c ∷ cs)) b.2 (All-from_get_or _ (c ∷ cs) c (λ k h. b.1.1 k c h))
 
 preferred_listed : (beats : Candidate → Candidate → Bool) → IsStrictWeakOrder beats → Picks (preferred beats)
 preferred_listed beats ranks [] h = absurd (omega arith)
@@ -57,7 +57,7 @@ pub first_lowest : FirstLowest
 first_lowest [] h = absurd (omega arith)
 first_lowest (c ∷ cs) h = record {
   listed = first_listed (c ∷ cs) h;
-  lowest = AllWeaker _ _ (λ d e. ltb-false _ _ e) (c ∷ cs) (best_unbeaten lower lower_ranks c cs);
+  lowest = All-weaker _ _ (λ d e. ltb-false _ _ e) (c ∷ cs) (best_unbeaten lower lower_ranks c cs);
 }
 
 pub busiest_largest : BusiestLargest
@@ -66,8 +66,8 @@ busiest_largest (c ∷ cs) h = record {
   pick = best_of busier c cs;
   listed = best_in busier busier_ranks c cs;
   position = refl;
-  largest = AllWeaker _ _ (λ d e. grind (arith, nat_tests)) (c ∷ cs) (best_unbeaten busier busier_ranks c cs);
-  lowest = AllWeaker _ _ (λ d e same. grind (arith, nat_tests)) (c ∷ cs) (best_unbeaten busier busier_ranks c cs);
+  largest = All-weaker _ _ (λ d e. grind (arith, nat_tests)) (c ∷ cs) (best_unbeaten busier busier_ranks c cs);
+  lowest = All-weaker _ _ (λ d e same. grind (arith, nat_tests)) (c ∷ cs) (best_unbeaten busier busier_ranks c cs);
 }
 
 -- the best so far and the candidates from i on give the pick

@@ -2,7 +2,7 @@
 use Rattle.std.proofs.Common.{◌≡◌, ℕ, zero, suc, ◌<◌, ◌≤◌, List, [], ◌∷◌, length, get_or, take, sym, ◌∙◌, subst, arith}
 use Rattle.std.specs.List.{AllByRecursion as All}
 use Rattle.std.proofs.lemmas.List.{get_or-take, length-take-le}
-use Rattle.std.proofs.ByRecursion.{All-get_or, AllFrom_get_or}
+use Rattle.std.proofs.ByRecursion.{All-get_or, All-from_get_or}
 use Rattle.qbf.specs.Lists.{Distinct}
 
 abbrev pub Apart : List ℕ → ℕ → Type 0
@@ -17,7 +17,7 @@ apart_from_distinct (x ∷ xs) d (suc j) (suc k) h l e = apart_from_distinct xs 
 distinct_from_apart : (xs : List ℕ) → Apart xs (length xs) → Distinct xs
 distinct_from_apart [] a = tt
 distinct_from_apart (x ∷ xs) a = (
-  AllFrom_get_or (λ y. x ≡ y → ⊥) xs 0 (λ i h. a 0 (suc i) (omega arith) (omega arith)),
+  All-from_get_or (λ y. x ≡ y → ⊥) xs 0 (λ i h. a 0 (suc i) (omega arith) (omega arith)),
   distinct_from_apart xs (λ j k h l. a (suc j) (suc k) (omega arith) (omega arith)),
 )
 
@@ -40,4 +40,4 @@ front_small xs n b l a k h =
 pub front_all : (xs : List ℕ) (n b : ℕ) → n ≤ length xs → ((k : ℕ) → k < n → get_or xs k 0 < b) → All (λ c. c < b) (take n xs)
 front_all xs n b l a =
     let t = length-take-le n xs l in
-    AllFrom_get_or (λ c. c < b) (take n xs) 0 (λ i h. let g = a i (omega arith) in subst (λ (q : ℕ). q < b) (sym (get_or-take n xs i 0 (omega arith))) g)
+    All-from_get_or (λ c. c < b) (take n xs) 0 (λ i h. let g = a i (omega arith) in subst (λ (q : ℕ). q < b) (sym (get_or-take n xs i 0 (omega arith))) g)

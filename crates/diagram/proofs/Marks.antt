@@ -1,7 +1,7 @@
 -- The marks of a list of codes.
 use Rattle.std.proofs.Common.{◌≡◌, ℕ, ◌+◌, ◌<◌, ◌≤◌, Bool, true, false, ◌||◌, eqb, List, [], ◌∷◌, ◌++◌, length, get_or, take, set, replicate, sym, refl, ap, ◌∙◌, subst, inl, inr, arith}
 use Rattle.std.specs.List.{AllByRecursion as All}
-use Rattle.std.proofs.ByRecursion.{All-push, AllWeaker}
+use Rattle.std.proofs.ByRecursion.{All-push, All-weaker}
 use Rattle.std.proofs.lemmas.Bool.Decides.{nat_tests}
 use Rattle.std.proofs.lemmas.Bool.{cases_eq}
 use Rattle.std.proofs.lemmas.List.{length-set, get_or-set_same, get_or-set_other, get_or-replicate, take_more}
@@ -43,6 +43,6 @@ spanned_none = record { within = tt; coded = omega arith }
 -- one code more, with bounds that may be wider
 pub spanned_more : (low end low' end' : ℕ) (codes : List ℕ) (i : ℕ) → i < length codes → low' ≤ low → low' ≤ get_or codes i 0 → end ≤ end' → get_or codes i 0 < end' → end' ≤ 512 → Spanned low end (take i codes) → Spanned low' end' (take (i + 1) codes)
 spanned_more low end low' end' codes i h a b c d top s = record {
-  within = subst (All (λ x. (low' ≤ x) × (x < end'))) (sym (take_more codes i 0 h)) (All-push (λ x. (low' ≤ x) × (x < end')) (take i codes) (get_or codes i 0) (AllWeaker (λ x. (low ≤ x) × (x < end)) (λ x. (low' ≤ x) × (x < end')) (λ x w. (omega (arith, w.0), omega (arith, w.1))) (take i codes) s.within) (b, d));
+  within = subst (All (λ x. (low' ≤ x) × (x < end'))) (sym (take_more codes i 0 h)) (All-push (λ x. (low' ≤ x) × (x < end')) (take i codes) (get_or codes i 0) (All-weaker (λ x. (low ≤ x) × (x < end)) (λ x. (low' ≤ x) × (x < end')) (λ x w. (omega (arith, w.0), omega (arith, w.1))) (take i codes) s.within) (b, d));
   coded = top;
 }

@@ -3,7 +3,7 @@ use Rattle.std.proofs.Common.{◌≡◌, ℕ, ◌*◌, ◌<◌, Bool, true, fals
 use Rattle.std.specs.List.{AllByRecursion as All}
 use Rattle.std.proofs.lemmas.Bool.Decides.{nat_tests}
 use Rattle.std.proofs.lemmas.Bool.{cond_both}
-use Rattle.std.proofs.ByRecursion.{AllMap, AllWeaker}
+use Rattle.std.proofs.ByRecursion.{All-map, All-weaker}
 use Rattle.std.proofs.lemmas.List.{length-map}
 use Rattle.qbf.specs.declared.Candidate.{Candidate}
 use Rattle.clause.specs.Once.{once}
@@ -51,14 +51,14 @@ reading_small : (text : List ℕ) (r : Reading) → read_all text ≡ Ok r → A
 reading_small text r e =
     let f = ((reading_stands_lem text).accepted r).0 e in
     let P : List ℕ → Type 0 = All (Small r.prefix) in
-    let written = AllWeaker P (λ c. P (once c)) (λ c. once_all (Small r.prefix) c) f.written_clauses (clauses_small f.clauses_are) in
-    rw f.stored (all_left P (stored_stands_lem f.written_clauses).in_order (AllMap P once f.written_clauses written))
+    let written = All-weaker P (λ c. P (once c)) (λ c. once_all (Small r.prefix) c) f.written_clauses (clauses_small f.clauses_are) in
+    rw f.stored (all_left P (stored_stands_lem f.written_clauses).in_order (All-map P once f.written_clauses written))
 
 -- the formula of a text
 text_stands : (text : List ℕ) (r : Reading) → read_all text ≡ Ok r → StandsUnder (Some r.prefix) (formula_of r)
 text_stands text r e =
     let P : List ℕ → Type 0 = All (Small r.prefix) in
-    let small = all_formed P [] r.clauses tt (AllWeaker P (λ c. P (clause_of c)) (λ c. all_clause (Small r.prefix) c) r.clauses (reading_small text r e)) in
+    let small = all_formed P [] r.clauses tt (All-weaker P (λ c. P (clause_of c)) (λ c. all_clause (Small r.prefix) c) r.clauses (reading_small text r e)) in
     record {
       prefix = r.prefix;
       there = refl;

@@ -2,7 +2,7 @@
 use Rattle.std.proofs.Common.{◌≡◌, ℕ, ◌≤◌, Bool, true, leb, List, [], ◌∷◌, ◌++◌, Option, refl, ap, ◌∙◌, inl, inr, arith}
 use Rattle.std.specs.List.{AllByRecursion as All}
 use Rattle.std.proofs.lemmas.Bool.Decides.{nat_tests}
-use Rattle.std.proofs.ByRecursion.{All-append, AllWeaker}
+use Rattle.std.proofs.ByRecursion.{All-append, All-weaker}
 use Rattle.qbf.specs.declared.Quantifier.{Quantifier}
 use Rattle.qbf.specs.declared.Candidate.{Candidate}
 use Rattle.qbf.specs.Lists.{In}
@@ -23,8 +23,8 @@ use Rattle.ledger.specs.Keeping.{MakingWeighed, MakingCrowded, LoadKeeps, Decisi
 -- a table that has gained nodes of the sets
 gained_weighed : {t u : Numbering} (w sets : List (List (List ℕ))) → All (Among w) t → Gains t sets u → All (Among (w ++ sets)) u
 gained_weighed {t} w sets h g =
-    let old = AllWeaker (Among w) (Among (w ++ sets)) (among_more w (w ++ sets) (λ s. in_append_left s w sets)) t h in
-    let new = AllWeaker (Among sets) (Among (w ++ sets)) (among_more sets (w ++ sets) (λ s. in_append_right s w sets)) g.added g.nodes in
+    let old = All-weaker (Among w) (Among (w ++ sets)) (among_more w (w ++ sets) (λ s. in_append_left s w sets)) t h in
+    let new = All-weaker (Among sets) (Among (w ++ sets)) (among_more sets (w ++ sets) (λ s. in_append_right s w sets)) g.added g.nodes in
     rw g.joined (All-append (Among (w ++ sets)) t g.added old new)
 
 absent_apart : {A : Type 0} (x : A) (xs : List A) → (In x xs → ⊥) → All (λ y. x ≡ y → ⊥) xs

@@ -1,6 +1,6 @@
 -- A row whose numbers differ holds as many pairs as it has places.
 use Rattle.std.proofs.Common.{◌≡◌, ℕ, suc, Bool, true, false, cond, ◌||◌, eqb, List, [], ◌∷◌, map, length, is_some, Some, Option, refl, arith}
-use Rattle.std.proofs.ByRecursion.{AllMap, AllFrom_get_or}
+use Rattle.std.proofs.ByRecursion.{All-map, All-from_get_or}
 use Rattle.std.proofs.lemmas.List.{length-map}
 use Rattle.qbf.specs.Lists.{Distinct, mem}
 use Rattle.memos.specs.declared.pair.Pair.{Pair}
@@ -21,8 +21,8 @@ some_listed (p ∷ ps) k = rw (test_some (eqb k p.number) p.verdict (verdict_amo
 numbers_distinct : (ps : List Pair) → Apart ps (length ps) → Distinct (numbers_of ps)
 numbers_distinct [] apart = tt
 numbers_distinct (p ∷ ps) apart = (
-  AllMap (λ y. p.number ≡ y → ⊥) (λ (q : Pair). q.number) ps
-      (AllFrom_get_or (λ (q : Pair). p.number ≡ q.number → ⊥) ps unused (λ j h. apart 0 (suc j) (omega arith) (omega arith))),
+  All-map (λ y. p.number ≡ y → ⊥) (λ (q : Pair). q.number) ps
+      (All-from_get_or (λ (q : Pair). p.number ≡ q.number → ⊥) ps unused (λ j h. apart 0 (suc j) (omega arith) (omega arith))),
   numbers_distinct ps (λ i j h l. apart (suc i) (suc j) (omega arith) (omega arith)),
 )
 

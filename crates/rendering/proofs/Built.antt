@@ -1,7 +1,7 @@
 -- The words of what is written are those of the format.
 use Rattle.std.proofs.Common.{◌≡◌, ℕ, ◌+◌, ◌<◌, ◌≤◌, Bool, true, false, List, [], ◌∷◌, ◌++◌, map, length, decimal, sym, refl, ap, ◌∙◌, append-nil, arith}
 use Rattle.std.specs.List.{AllByRecursion as All}
-use Rattle.std.proofs.ByRecursion.{AllMap, AllWeaker}
+use Rattle.std.proofs.ByRecursion.{All-map, All-weaker}
 use Rattle.std.proofs.lemmas.Bool.{cond_both}
 use Rattle.qbf.specs.declared.Quantifier.{Quantifier}
 use Rattle.qbf.specs.declared.Quantifier.TheVariants.{Existential, Universal}
@@ -52,14 +52,14 @@ fitting v (b ∷ bs) h = fitting_front v b (blocks bs) h.0 (fitting v bs h.1)
 
 blocks_spelled : (v : ℕ) → v ≤ 256 → (ks : List Block) → Fitting v ks → All (λ k. All Spelled (block_words k)) ks
 blocks_spelled v m ks h =
-    AllWeaker (λ k. All (Fits v) k.variables) (λ k. All Spelled (block_words k))
-    (λ k a. (letter_spelled k.quantifier, AllMap Spelled decimal k.variables (AllWeaker (Fits v) (λ n. Spelled (decimal n)) (λ n f. let l = f.1 in number_spelled n (omega arith)) k.variables a)))
+    All-weaker (λ k. All (Fits v) k.variables) (λ k. All Spelled (block_words k))
+    (λ k a. (letter_spelled k.quantifier, All-map Spelled decimal k.variables (All-weaker (Fits v) (λ n. Spelled (decimal n)) (λ n f. let l = f.1 in number_spelled n (omega arith)) k.variables a)))
     ks h
 
 clauses_spelled : (v : ℕ) (prefix : List Binding) → v ≤ 256 → (s : List (List ℕ)) → All (All (Known v prefix)) s → All (λ c. All Spelled (clause_words prefix c)) s
 clauses_spelled v prefix m s h =
-    AllWeaker (All (Known v prefix)) (λ c. All Spelled (clause_words prefix c))
-    (λ c a. AllMap Spelled (λ k. written (literal_of prefix k)) c (AllWeaker (Known v prefix) (λ k. Spelled (written (literal_of prefix k))) (λ k f. let l = f.1 in literal_spelled (literal_of prefix k) (omega arith)) c a))
+    All-weaker (All (Known v prefix)) (λ c. All Spelled (clause_words prefix c))
+    (λ c a. All-map Spelled (λ k. written (literal_of prefix k)) c (All-weaker (Known v prefix) (λ k. Spelled (written (literal_of prefix k))) (λ k f. let l = f.1 in literal_spelled (literal_of prefix k) (omega arith)) c a))
     s h
 
 -- the scan of the whole text

@@ -1,7 +1,7 @@
 -- What is written is no longer than the words that were read, with one byte behind each.
 use Rattle.std.proofs.Common.{◌≡◌, ℕ, ◌+◌, ◌<◌, ◌≤◌, true, List, [], ◌∷◌, ◌++◌, map, length, decimal, sym, refl, ap, ◌∙◌, arith, length-append}
 use Rattle.std.specs.List.{flat_map, AllByRecursion as All}
-use Rattle.std.proofs.ByRecursion.{All-append, AllMap}
+use Rattle.std.proofs.ByRecursion.{All-append, All-map}
 use Rattle.std.proofs.lemmas.Bool.{cond-true, cond_both}
 use Rattle.qbf.specs.declared.Quantifier.{Quantifier}
 use Rattle.qbf.specs.declared.Quantifier.TheVariants.{Existential, Universal}
@@ -111,7 +111,7 @@ prefix_cost {v} (prefix_line {w} {ws} {us} {q} {n} {ns} {bs} one e variables res
     let l = line_most q n ns bs in
     let a = cost_append (w ∷ ws) us in
     let o = length_letter q in
-    (omega (arith, ap length e), All-append (λ b. Fits v b.variable) (map (bind q) (n ∷ ns)) bs (AllMap (λ b. Fits v b.variable) (bind q) (n ∷ ns) h.1) ih.1)
+    (omega (arith, ap length e), All-append (λ b. Fits v b.variable) (map (bind q) (n ∷ ns)) bs (All-map (λ b. Fits v b.variable) (bind q) (n ∷ ns) h.1) ih.1)
 
 -- the clauses
 

@@ -1,7 +1,7 @@
 -- A set of clauses in its one form is stored as it is.
 use Rattle.std.proofs.Common.{◌≡◌, ℕ, ◌<◌, ◌≤◌, Bool, true, false, List, [], ◌∷◌, ◌++◌, map, length, sym, refl, ap, ◌∙◌, subst, inl, inr, append_assoc, append-nil, arith}
 use Rattle.std.specs.List.{AllByRecursion as All}
-use Rattle.std.proofs.ByRecursion.{All-push, AllWeaker, AllMap}
+use Rattle.std.proofs.ByRecursion.{All-push, All-weaker, All-map}
 use Rattle.std.proofs.lemmas.List.{length-map}
 use Rattle.std.proofs.lemmas.Bool.{both_ways, cond-false, or_from}
 use Rattle.qbf.specs.Lists.{In}
@@ -73,8 +73,8 @@ store_next stored c r a b s =
 store_rest : (s stored : List (List ℕ)) → All Rising stored → Canonical s → All (λ d. All (λ c. below d c ≡ true) s) stored → All (λ c. both_signs c ≡ false) s → store_all stored s ≡ stored ++ s
 store_rest [] stored a h b o = sym (append-nil stored)
 store_rest (c ∷ s) stored a h b o =
-    let now : All (λ d. below d c ≡ true) stored = AllWeaker (λ d. All (λ c. below d c ≡ true) (c ∷ s)) (λ d. below d c ≡ true) (λ d x. x.0) stored b in
-    let later : All (λ d. All (λ c. below d c ≡ true) s) stored = AllWeaker (λ d. All (λ c. below d c ≡ true) (c ∷ s)) (λ d. All (λ c. below d c ≡ true) s) (λ d x. x.1) stored b in
+    let now : All (λ d. below d c ≡ true) stored = All-weaker (λ d. All (λ c. below d c ≡ true) (c ∷ s)) (λ d. below d c ≡ true) (λ d x. x.0) stored b in
+    let later : All (λ d. All (λ c. below d c ≡ true) s) stored = All-weaker (λ d. All (λ c. below d c ≡ true) (c ∷ s)) (λ d. All (λ c. below d c ≡ true) s) (λ d x. x.1) stored b in
     ap (λ (q : List (List ℕ)). store_all q s) (store_next stored c h.0.0 a now o.0)
     ∙ store_rest s (stored ++ c ∷ []) (All-push Rising stored c a h.0.0) (h.0.1, h.1.1) (All-push (λ d. All (λ c. below d c ≡ true) s) stored c later h.1.0) o.1
     ∙ append_assoc stored (c ∷ []) s
@@ -104,11 +104,11 @@ length_stored written =
 
 pub codes_stored : (P : ℕ → Type 0) (written : List (List ℕ)) → All (All P) written → All (All P) (store_all [] written)
 codes_stored P written a =
-    all_left (All P) (stored_stands_lem written).in_order (AllMap (All P) once written (AllWeaker (All P) (λ c. All P (once c)) (once_all P) written a))
+    all_left (All P) (stored_stands_lem written).in_order (All-map (All P) once written (All-weaker (All P) (λ c. All P (once c)) (once_all P) written a))
 
 pub codes_formed : (P : ℕ → Type 0) (written : List (List ℕ)) → All (All P) written → All (All P) (formed [] (store_all [] written))
 codes_formed P written a =
-    all_formed (All P) [] (store_all [] written) tt (AllWeaker (All P) (λ c. All P (clause_of c)) (all_clause P) (store_all [] written) (codes_stored P written a))
+    all_formed (All P) [] (store_all [] written) tt (All-weaker (All P) (λ c. All P (clause_of c)) (all_clause P) (store_all [] written) (codes_stored P written a))
 
 one_sign : (c : List ℕ) → both_signs c ≡ false → both_signs (clause_of c) ≡ false
 one_sign c b = on (both_signs (clause_of c)) refl
@@ -123,4 +123,4 @@ one_sign c b = on (both_signs (clause_of c)) refl
 pub one_sign_formed : (written : List (List ℕ)) → All (λ c. both_signs c ≡ false) (formed [] (store_all [] written))
 one_sign_formed written =
     all_formed (λ c. both_signs c ≡ false) [] (store_all [] written) tt
-    (AllWeaker (λ c. both_signs c ≡ false) (λ c. both_signs (clause_of c) ≡ false) one_sign (store_all [] written) (stored_stands_lem written).one_sign)
+    (All-weaker (λ c. both_signs c ≡ false) (λ c. both_signs (clause_of c) ≡ false) one_sign (store_all [] written) (stored_stands_lem written).one_sign)

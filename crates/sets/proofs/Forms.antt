@@ -2,7 +2,7 @@
 use Rattle.std.proofs.Common.{◌≡◌, ℕ, ◌<◌, ◌≤◌, true, not, List, [], ◌∷◌, arith}
 use Rattle.std.specs.List.{AllByRecursion as All}
 use Rattle.std.proofs.lemmas.Bool.Decides.{nat_tests}
-use Rattle.std.proofs.ByRecursion.{all_kept_by, AllMap, AllWeaker}
+use Rattle.std.proofs.ByRecursion.{all_kept_by, All-map, All-weaker}
 use Rattle.qbf.specs.Literals.{complement}
 use Rattle.qbf.specs.Lists.{mem, without}
 use Rattle.qbf.specs.Clauses.{below, Rising, Canonical, union, holding, lacking, taken_out}
@@ -21,7 +21,7 @@ canonical_holding l s h = (all_kept_by (mem l) Rising s h.0, sorted_kept (mem l)
 
 pub canonical_taken_out : (l : ℕ) (s : List (List ℕ)) → Canonical s → Canonical (taken_out l s)
 canonical_taken_out l s h = (
-  AllMap Rising (without l) (holding l s) (AllWeaker Rising (λ c. Rising (without l c)) (rising_without l) (holding l s) (canonical_holding l s h).0),
+  All-map Rising (without l) (holding l s) (All-weaker Rising (λ c. Rising (without l c)) (rising_without l) (holding l s) (canonical_holding l s h).0),
   sorted_taken_out l s h,
 )
 
@@ -43,11 +43,11 @@ one_form s t h k same = sorted_same s t h.1 k.1 (λ c. (same c).0) (λ c. (same 
 
 -- the first code of a set is its lowest
 head_lowest : (k : ℕ) (c : List ℕ) (s : List (List ℕ)) → All Rising s → Rising (k ∷ c) → All (λ d. below (k ∷ c) d ≡ true) s → All (All (λ x. k ≤ x)) ((k ∷ c) ∷ s)
-head_lowest k c s r rc b = ((omega arith, AllWeaker (λ x. k < x) (λ x. k ≤ x) (λ x h. omega arith) c rc.0), rest s r b)
+head_lowest k c s r rc b = ((omega arith, All-weaker (λ x. k < x) (λ x. k ≤ x) (λ x h. omega arith) c rc.0), rest s r b)
   where
     one : (d : List ℕ) → Rising d → below (k ∷ c) d ≡ true → All (λ x. k ≤ x) d
     one [] r b = tt
-    one (y ∷ d) r b = let h : k ≤ y = grind (arith, nat_tests) in (h, AllWeaker (λ x. y < x) (λ x. k ≤ x) (λ x g. omega arith) d r.0)
+    one (y ∷ d) r b = let h : k ≤ y = grind (arith, nat_tests) in (h, All-weaker (λ x. y < x) (λ x. k ≤ x) (λ x g. omega arith) d r.0)
 
     rest : (s : List (List ℕ)) → All Rising s → All (λ d. below (k ∷ c) d ≡ true) s → All (All (λ x. k ≤ x)) s
     rest [] r b = tt

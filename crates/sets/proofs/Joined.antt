@@ -3,7 +3,7 @@ use Rattle.std.proofs.Common.{◌≡◌, ℕ, ◌+◌, ◌<◌, ◌≤◌, true,
 use Rattle.std.specs.List.{AllByRecursion as All}
 use Rattle.std.proofs.lemmas.Bool.Decides.{nat_tests}
 use Rattle.std.proofs.lemmas.List.{length-map}
-use Rattle.std.proofs.ByRecursion.{All-append, all_kept_by, AllMap, AllWeaker}
+use Rattle.std.proofs.ByRecursion.{All-append, all_kept_by, All-map, All-weaker}
 use Rattle.qbf.specs.Lists.{In, mem, without}
 use Rattle.qbf.specs.Clauses.{below, Rising, Sorted, Canonical, weave, union, holding, lacking, taken_out}
 use Rattle.qbf.specs.Nodes.{with_side, without_side, Node, node_itself, node_with, node_without}
@@ -15,10 +15,10 @@ abbrev Set : Type 0
 Set = List (List ℕ)
 
 pub over_less : (j k : ℕ) (s : Set) → j ≤ k → Over k s → Over j s
-over_less j k s l a = AllWeaker (All (λ y. k < y)) (All (λ y. j < y)) (λ c. AllWeaker (λ y. k < y) (λ y. j < y) (λ y h. omega arith) c) s a
+over_less j k s l a = All-weaker (All (λ y. k < y)) (All (λ y. j < y)) (λ c. All-weaker (λ y. k < y) (λ y. j < y) (λ y h. omega arith) c) s a
 
 over_put : (j k : ℕ) (hi : Set) → j < k → Over k hi → Over j (map (λ c. k ∷ c) hi)
-over_put j k hi l a = AllMap (All (λ y. j < y)) (λ c. k ∷ c) hi (AllWeaker (All (λ y. k < y)) (λ c. All (λ y. j < y) (k ∷ c)) (λ c h. (l, AllWeaker (λ y. k < y) (λ y. j < y) (λ y g. omega arith) c h)) hi a)
+over_put j k hi l a = All-map (All (λ y. j < y)) (λ c. k ∷ c) hi (All-weaker (All (λ y. k < y)) (λ c. All (λ y. j < y) (k ∷ c)) (λ c h. (l, All-weaker (λ y. k < y) (λ y. j < y) (λ y g. omega arith) c h)) hi a)
 
 pub over_joined : (j k : ℕ) (hi lo : Set) → j < k → Over k hi → Over k lo → Over j (joined k hi lo)
 over_joined j k hi lo l a b = All-append (All (λ y. j < y)) (map (λ c. k ∷ c) hi) lo (over_put j k hi l a) (over_less j k lo (omega arith) b)
@@ -138,7 +138,7 @@ pub over_lacking : (k l : ℕ) (s : Set) → Over k s → Over k (lacking l s)
 over_lacking k l s a = all_kept_by (λ c. not (mem l c)) (All (λ y. k < y)) s a
 
 pub over_taken_out : (k l : ℕ) (s : Set) → Over k s → Over k (taken_out l s)
-over_taken_out k l s a = AllMap (All (λ y. k < y)) (without l) (holding l s) (AllWeaker (All (λ y. k < y)) (λ c. All (λ y. k < y) (without l c)) (λ c h. all_without (λ y. k < y) l c h) (holding l s) (all_kept_by (mem l) (All (λ y. k < y)) s a))
+over_taken_out k l s a = All-map (All (λ y. k < y)) (without l) (holding l s) (All-weaker (All (λ y. k < y)) (λ c. All (λ y. k < y) (without l c)) (λ c h. all_without (λ y. k < y) l c h) (holding l s) (all_kept_by (mem l) (All (λ y. k < y)) s a))
 
 -- numbers of clauses
 

@@ -3,7 +3,7 @@ use Rattle.std.proofs.Common.{◌≡◌, ℕ, ◌<◌, ◌≤◌, Bool, true, fa
 use Rattle.std.specs.List.{AllByRecursion as All}
 use Rattle.std.proofs.lemmas.Bool.Decides.{nat_tests}
 use Rattle.std.proofs.lemmas.Bool.{cases_eq, cond_both}
-use Rattle.std.proofs.ByRecursion.{all_kept_by, AllWeaker}
+use Rattle.std.proofs.ByRecursion.{all_kept_by, All-weaker}
 use Rattle.qbf.specs.Lists.{In, mem, without}
 use Rattle.qbf.specs.Clauses.{below, Rising, Sorted, Canonical, weave, union, taken_out}
 use Rattle.qbf.specs.Nodes.{begins, with_side, without_side}
@@ -51,7 +51,7 @@ below_without m (x ∷ c) (y ∷ d) rc rd h k b =
     let a2 : m ≤ y → mem m d ≡ false = λ l. above_absent m y d l rd.0 in
     let w1 = without_absent m c in
     let w2 = without_absent m d in
-    let ba : x ≤ y → below (x ∷ without m c) d ≡ true = λ l. below_all x (without m c) d (AllWeaker (λ z. y < z) (λ z. x < z) (λ z g. omega arith) d rd.0) in
+    let ba : x ≤ y → below (x ∷ without m c) d ≡ true = λ l. below_all x (without m c) d (All-weaker (λ z. y < z) (λ z. x < z) (λ z g. omega arith) d rd.0) in
     grind (arith, nat_tests)
 
 pub taken_out_above : (m : ℕ) (c : List ℕ) (s : List (List ℕ)) → Rising c → mem m c ≡ true → All Rising s → All (λ d. below c d ≡ true) s → All (λ d. below (without m c) d ≡ true) (taken_out m s)
@@ -78,7 +78,7 @@ all_union P (c ∷ s) t h k = go (all_union P s) t k
         cond_both (below d c) _ _ (All P) (λ _. (k.0, go rec t k.1)) (λ _. (h.0, rec t h.1 k.1)))
 
 all_below : (c d : List ℕ) (s : List (List ℕ)) → below c d ≡ true → All (λ e. below d e ≡ true) s → All (λ e. below c e ≡ true) s
-all_below c d s h = AllWeaker (λ e. below d e ≡ true) (λ e. below c e ≡ true) (λ e k. below_trans c d e h k) s
+all_below c d s h = All-weaker (λ e. below d e ≡ true) (λ e. below c e ≡ true) (λ e k. below_trans c d e h k) s
 
 pub sorted_union : (s t : List (List ℕ)) → Sorted s → Sorted t → Sorted (union s t)
 sorted_union [] t h k = k

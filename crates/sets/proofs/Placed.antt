@@ -3,7 +3,7 @@ use Rattle.std.proofs.Common.{◌≡◌, ℕ, ◌<◌, ◌||◌, eqb, ltb, ◌�
 use Rattle.std.specs.List.{AllByRecursion as All}
 use Rattle.std.proofs.lemmas.Bool.Decides.{nat_tests}
 use Rattle.std.proofs.lemmas.Bool.{cond_both}
-use Rattle.std.proofs.ByRecursion.{AllWeaker}
+use Rattle.std.proofs.ByRecursion.{All-weaker}
 use Rattle.qbf.specs.Lists.{In, mem}
 use Rattle.qbf.specs.Clauses.{Rising}
 use Rattle.sets.specs.Ordered.{placed, clause_of}
@@ -20,7 +20,7 @@ rising_placed x [] r = (tt, tt)
 rising_placed x (y ∷ c) r =
     let ih = rising_placed x c r.1 in
     cond_both (ltb x y) _ _ Rising
-    (λ e. let l : x < y = grind (arith, nat_tests) in ((l, AllWeaker (λ z. y < z) (λ z. x < z) (λ z g. omega arith) c r.0), r))
+    (λ e. let l : x < y = grind (arith, nat_tests) in ((l, All-weaker (λ z. y < z) (λ z. x < z) (λ z g. omega arith) c r.0), r))
     (λ e. cond_both (eqb x y) _ _ Rising (λ _. r) (λ f. (all_placed (λ z. y < z) x c (grind (arith, nat_tests)) r.0, ih)))
 
 in_placed : (z x : ℕ) (c : List ℕ) → In z (placed x c) → (z ≡ x) ⊎ In z c

@@ -1,7 +1,7 @@
 -- The making of one set after another.
 use Rattle.std.proofs.Common.{ℕ, List, [], ◌∷◌, ◌++◌, Ok, Err, Result, sym, refl, ap, ◌∙◌, subst, inl, inr, append_assoc}
 use Rattle.std.specs.List.{AllByRecursion as All}
-use Rattle.std.proofs.ByRecursion.{All-append, AllWeaker}
+use Rattle.std.proofs.ByRecursion.{All-append, All-weaker}
 use Rattle.qbf.specs.Lists.{In}
 use Rattle.table.specs.declared.table.Full.{Full}
 use Rattle.table.specs.declared.table.Table.{Table}
@@ -27,7 +27,7 @@ pub adds_append : (t : Table) (sets : List (List (List ℕ))) (u : Table) (more 
 adds_append t sets u more w g h = adds_then t (sets ++ more) u w (adds_widen t sets u (sets ++ more) (within_left sets more) g) (adds_widen u more w (sets ++ more) (within_right sets more) h)
 
 all_kept : (t : Table) (sets : List (List (List ℕ))) (u : Table) → Adds t sets u → (held : List (List (List ℕ))) → All (Held t) held → All (Held u) held
-all_kept t sets u g held a = AllWeaker (Held t) (Held u) (held_kept t sets u g) held a
+all_kept t sets u g held a = All-weaker (Held t) (Held u) (held_kept t sets u g) held a
 
 pub made_none : (t : Table) → Made t [] t
 made_none t = record { grows = adds_same t []; held = tt }

@@ -2,7 +2,7 @@
 use Rattle.std.proofs.Common.{◌≡◌, ℕ, suc, ◌+◌, ◌<◌, ◌≤◌, Bool, true, false, cond, ltb, List, [], ◌∷◌, ◌++◌, length, Some, sym, refl, ap, ◌∙◌, inl, inr, append_assoc, append-nil, arith, length-append}
 use Rattle.std.specs.List.{AllByRecursion as All}
 use Rattle.std.proofs.lemmas.Bool.Decides.{nat_tests, not_from_Decides}
-use Rattle.std.proofs.ByRecursion.{AllWeaker}
+use Rattle.std.proofs.ByRecursion.{All-weaker}
 use Rattle.qbf.specs.Lists.{In, Distinct}
 use Rattle.qbf.specs.Reduce.{size}
 use Rattle.qbf.specs.NodeList.{same_set, listed, nodes}
@@ -48,7 +48,7 @@ adds t (x ∷ xs) f = go (listed x t) refl (ltb (length t) capacity) refl (λ u.
         record {
           new = r.new;
           joined = r.joined;
-          from = AllWeaker (λ z. In z xs) (λ z. In z (x ∷ xs)) (λ z j. inr j) r.new r.from;
+          from = All-weaker (λ z. In z xs) (λ z. In z (x ∷ xs)) (λ z j. inr j) r.new r.from;
           fit = r.fit;
           whole = λ d z. elim [ inl g ↦ rw g (rw r.joined (in_append_left x t r.new i)) | inr j ↦ r.whole d z j ];
           short = λ d. let s = r.short d in (s.0, s.1, inr s.2, s.3);
@@ -60,7 +60,7 @@ adds t (x ∷ xs) f = go (listed x t) refl (ltb (length t) capacity) refl (λ u.
         record {
           new = x ∷ r.new;
           joined = r.joined ∙ append_assoc t (x ∷ []) r.new;
-          from = (inl refl, AllWeaker (λ z. In z xs) (λ z. In z (x ∷ xs)) (λ z j. inr j) r.new r.from);
+          from = (inl refl, All-weaker (λ z. In z xs) (λ z. In z (x ∷ xs)) (λ z j. inr j) r.new r.from);
           fit = r.fit;
           whole = λ d z. elim [
             | inl g ↦ rw g (rw r.joined (in_append_left x (t ++ (x ∷ [])) r.new (in_append_right x t (x ∷ []) (inl refl))))
@@ -84,7 +84,7 @@ adds t (x ∷ xs) f = go (listed x t) refl (ltb (length t) capacity) refl (λ u.
 one_gains : (t : Numbering) (s : List (List ℕ)) → Fit t → Gains t (s ∷ []) (add t (nodes s)).table
 one_gains t s f =
     let a = adds t (nodes s) f in
-    record { added = a.new; joined = a.joined; nodes = AllWeaker (λ x. In x (nodes s)) (Among (s ∷ [])) (λ x i. (s, inl refl, nodes_are (size s) s x i)) a.new a.from }
+    record { added = a.new; joined = a.joined; nodes = All-weaker (λ x. In x (nodes s)) (Among (s ∷ [])) (λ x i. (s, inl refl, nodes_are (size s) s x i)) a.new a.from }
 
 one_made : (t : Numbering) (s : List (List ℕ)) → Fit t → (add t (nodes s)).done ≡ true → Makes t (s ∷ []) (add t (nodes s)).table
 one_made t s f d =

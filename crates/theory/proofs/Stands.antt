@@ -3,7 +3,7 @@ use Rattle.std.proofs.Common.{◌≡◌, ℕ, suc, ◌+◌, ◌*◌, ◌/◌, �
 use Rattle.std.specs.List.{AllByRecursion as All}
 use Rattle.std.proofs.lemmas.Bool.Decides.{nat_tests}
 use Rattle.std.proofs.lemmas.Bool.{cases_eq, cases_Bool}
-use Rattle.std.proofs.ByRecursion.{all_kept_by, AllMap, AllWeaker}
+use Rattle.std.proofs.ByRecursion.{all_kept_by, All-map, All-weaker}
 use Rattle.qbf.specs.declared.Quantifier.{Quantifier}
 use Rattle.qbf.specs.declared.Candidate.{Candidate}
 use Rattle.qbf.specs.Literals.{complement, positive, negative}
@@ -40,7 +40,7 @@ within_assigned prefix l s h =
     let a : All P (lacking l s) = all_kept_by (λ c. not (mem l c)) P s h in
     let b : All P (holding m (lacking l s)) = all_kept_by (mem m) P (lacking l s) a in
     all_union P (taken_out m (lacking l s)) (lacking m (lacking l s))
-    (AllMap P (without m) (holding m (lacking l s)) (AllWeaker P (λ c. P (without m c)) (λ c. all_without (λ x. x < 2 * length prefix) m c) (holding m (lacking l s)) b))
+    (All-map P (without m) (holding m (lacking l s)) (All-weaker P (λ c. P (without m c)) (λ c. all_without (λ x. x < 2 * length prefix) m c) (holding m (lacking l s)) b))
     (all_kept_by (λ c. not (mem m c)) P (lacking l s) a)
 
 pub reduces_within : {prefix : List Quantifier} {s t : List (List ℕ)} {made : List (List (List ℕ))} → Reduces prefix s (left t) made → Within prefix s → Within prefix t

@@ -1,7 +1,7 @@
 -- Tables that grow.
 use Rattle.std.proofs.Common.{◌≡◌, ℕ, zero, suc, ◌⊎◌, List, [], ◌∷◌, ◌++◌, Some, sym, refl, ap, ◌∙◌, inl, inr, append_assoc, append-nil, arith}
 use Rattle.std.proofs.lemmas.Bool.Decides.{nat_tests}
-use Rattle.std.proofs.ByRecursion.{All-append, AllWeaker}
+use Rattle.std.proofs.ByRecursion.{All-append, All-weaker}
 use Rattle.qbf.specs.Lists.{In}
 use Rattle.qbf.specs.Numbering.{Numbering, nth, stands, Among, Gains, Stops}
 use Rattle.theory.specs.Deciding.{Overfull}
@@ -28,7 +28,7 @@ pub gains_none : (t : Numbering) (sets : List (List (List ℕ))) → Gains t set
 gains_none t sets = record { added = []; joined = sym (append-nil t); nodes = tt }
 
 pub gains_more : {t u : Numbering} {xs ys : List (List (List ℕ))} → Subset xs ys → Gains t xs u → Gains t ys u
-gains_more {xs = xs} {ys} p g = record { added = g.added; joined = g.joined; nodes = AllWeaker (Among xs) (Among ys) (among_more xs ys p) g.added g.nodes }
+gains_more {xs = xs} {ys} p g = record { added = g.added; joined = g.joined; nodes = All-weaker (Among xs) (Among ys) (among_more xs ys p) g.added g.nodes }
 
 pub gains_then : {t u v : Numbering} {sets : List (List (List ℕ))} → Gains t sets u → Gains u sets v → Gains t sets v
 gains_then {t} {u} {v} {sets} g h = record {

@@ -1,7 +1,7 @@
 -- The clauses below a path, by the two sides of a set.
 use Rattle.std.proofs.Common.{◌≡◌, ℕ, ◌+◌, ◌-◌, ◌<◌, ◌≤◌, List, [], ◌∷◌, ◌++◌, length, take, sym, refl, ap, ◌∙◌, subst, inl, inr, append_assoc, append-nil, arith}
 use Rattle.std.specs.List.{AllByRecursion as All}
-use Rattle.std.proofs.ByRecursion.{All-push, AllWeaker}
+use Rattle.std.proofs.ByRecursion.{All-push, All-weaker}
 use Rattle.std.proofs.lemmas.List.{length_push, take_at}
 use Rattle.std.proofs.lemmas.Bool.{cases_eq}
 use Rattle.formula.specs.declared.prefix.Binding.{Binding}
@@ -88,7 +88,7 @@ module _ (t : Table) (n : ℕ) (x : Node) (held : Number t n) (o : Opens t n x) 
         record {
           path_bound = subst (All (λ (k : ℕ). k < m)) (sym e) (All-push (λ (k : ℕ). k < m) path x.code b.path_bound (here (λ (k : ℕ). k < m) b.bound));
           bound = (sides (λ (k : ℕ). k < m) b.bound).0;
-          deep = AllWeaker (All (λ (k : ℕ). x.code < k)) (All (λ (k : ℕ). length longer ≤ k)) (AllWeaker (λ (k : ℕ). x.code < k) (λ (k : ℕ). length longer ≤ k) (λ k h. omega arith)) hi o.with_over;
+          deep = All-weaker (All (λ (k : ℕ). x.code < k)) (All (λ (k : ℕ). length longer ≤ k)) (All-weaker (λ (k : ℕ). x.code < k) (λ (k : ℕ). length longer ≤ k) (λ k h. omega arith)) hi o.with_over;
         }
 
     pub below_low : (after : List ℕ) → after ≡ path → Below m after lo

@@ -1,7 +1,7 @@
 -- What holds of a formula that was read, so that it can be stored and written.
 use Rattle.std.proofs.Common.{◌≡◌, ℕ, ◌*◌, ◌<◌, ◌≤◌, Bool, true, false, List, [], length, sym, ap, subst, arith}
 use Rattle.std.specs.List.{AllByRecursion as All}
-use Rattle.std.proofs.ByRecursion.{AllWeaker}
+use Rattle.std.proofs.ByRecursion.{All-weaker}
 use Rattle.formula.specs.declared.prefix.Binding.{Binding}
 use Rattle.formula.specs.declared.Formula.{Formula}
 use Rattle.formula.specs.Views.{Reading, reading, bindings_of, clauses_of}
@@ -28,7 +28,7 @@ known_within v prefix k known =
 
 module _ {text : List ℕ} {f : Reading} (h : Format text f) where
   within : All (All (λ k. k < 2 * length f.prefix)) h.written_clauses
-  within = AllWeaker (All (Known f.variables f.prefix)) (All (λ (k : ℕ). k < 2 * length f.prefix)) (AllWeaker (Known f.variables f.prefix) (λ (k : ℕ). k < 2 * length f.prefix) (known_within f.variables f.prefix)) h.written_clauses (clauses_cost h.clauses_are).1
+  within = All-weaker (All (Known f.variables f.prefix)) (All (λ (k : ℕ). k < 2 * length f.prefix)) (All-weaker (Known f.variables f.prefix) (λ (k : ℕ). k < 2 * length f.prefix) (known_within f.variables f.prefix)) h.written_clauses (clauses_cost h.clauses_are).1
 
   -- all codes are those of the prefix
   pub stored_within : All (All (λ k. k < 2 * length f.prefix)) f.clauses
@@ -50,4 +50,4 @@ module _ {text : List ℕ} {f : Reading} (h : Format text f) where
 pub stored_coded : {text : List ℕ} (f : Formula) → Format text (reading f) → All (All (λ k. k < 512)) (clauses_of f.clauses)
 stored_coded f h =
     let l = prefix_short f.prefix in
-    AllWeaker (All (λ (k : ℕ). k < 2 * length (bindings_of f.prefix))) (All (λ (k : ℕ). k < 512)) (AllWeaker (λ (k : ℕ). k < 2 * length (bindings_of f.prefix)) (λ (k : ℕ). k < 512) (λ k b. omega arith)) (clauses_of f.clauses) (stored_within h)
+    All-weaker (All (λ (k : ℕ). k < 2 * length (bindings_of f.prefix))) (All (λ (k : ℕ). k < 512)) (All-weaker (λ (k : ℕ). k < 2 * length (bindings_of f.prefix)) (λ (k : ℕ). k < 512) (λ k b. omega arith)) (clauses_of f.clauses) (stored_within h)

@@ -2,7 +2,7 @@
 use Rattle.std.proofs.Common.{◌≡◌, ℕ, zero, suc, ◌+◌, ◌*◌, ◌/◌, ◌%◌, ◌<◌, ◌≤◌, false, eqb, List, [], ◌∷◌, ◌++◌, length, Some, None, decimal, Option, sym, ap, subst, arith, length-append, length-take}
 use Rattle.std.specs.Fmt.{digits_onto, digits, digit_glyph}
 use Rattle.std.specs.List.{AllByRecursion as All}
-use Rattle.std.proofs.ByRecursion.{AllWeaker}
+use Rattle.std.proofs.ByRecursion.{All-weaker}
 use Rattle.std.proofs.lemmas.Bool.{cond_both}
 use Rattle.qbf.specs.declared.Quantifier.{Quantifier}
 use Rattle.qbf.specs.declared.Quantifier.TheVariants.{Existential, Universal}
@@ -76,7 +76,7 @@ rising_most n a [] h above under r = omega arith
 rising_most n a (x ∷ c) h above under r =
     let p = above.0 in
     let q = under.0 in
-    let ih = rising_most n (x + 1) c (omega arith) (AllWeaker (λ (k : ℕ). x < k) (λ (k : ℕ). x + 1 ≤ k) (λ k l. omega arith) c r.0) under.1 r.1 in
+    let ih = rising_most n (x + 1) c (omega arith) (All-weaker (λ (k : ℕ). x < k) (λ (k : ℕ). x + 1 ≤ k) (λ k l. omega arith) c r.0) under.1 r.1 in
     omega arith
 
 literals_most : (prefix : List Binding) (c : List ℕ) → total (literal_cost prefix) c ≤ 66 * length c
@@ -109,7 +109,7 @@ module _ (t : Table) (n : ℕ) (p : Prefix) (bs : List Binding) (e : bs ≡ bind
       let s = clauses t n in
       let l = prefix_short p in
       let same = ap length e in
-      let u : All (All (λ k. k < 512)) s = AllWeaker (All (λ (k : ℕ). k < 2 * length bs)) (All (λ (k : ℕ). k < 512)) (AllWeaker (λ (k : ℕ). k < 2 * length bs) (λ (k : ℕ). k < 512) (λ k h. omega arith)) s bound_as in
+      let u : All (All (λ k. k < 512)) s = All-weaker (All (λ (k : ℕ). k < 2 * length bs)) (All (λ (k : ℕ). k < 512)) (All-weaker (λ (k : ℕ). k < 2 * length bs) (λ (k : ℕ). k < 512) (λ k h. omega arith)) s bound_as in
       let c = clauses_most bs s (sets_formed t n held).0 u in
       let q = prefix_most bs in
       let d = decimal_most v in

@@ -1,5 +1,5 @@
 use Rattle.std.proofs.Common.{◌≡◌, ℕ, ◌+◌, ◌-◌, ◌<◌, ◌≤◌, true, false, List, sym, ◌∙◌, arith}
-use Rattle.std.proofs.ByRecursion.{AllWeaker}
+use Rattle.std.proofs.ByRecursion.{All-weaker}
 use Rattle.std.proofs.lemmas.Result.{err_from_is_err_and}
 use Rattle.qbf.specs.Lists.{mem}
 use Rattle.sets.specs.Ordered.{clause_of}
@@ -11,7 +11,7 @@ use Rattle.diagram.proofs.clause.single.Goals.{Then-marks-code}
 pub loop-code-init : goal.loop-code-init
 loop-code-init c =
     let m = c.mark-marks.result in
-    chain_starts c.args.table.now (clause_of c.args.codes.now) m.end (all_clause (λ x. x < m.end) c.args.codes.now (AllWeaker (λ x. (m.low ≤ x) × (x < m.end)) (λ x. x < m.end) (λ x w. w.1) c.args.codes.now c.mark-marks.ensures.within))
+    chain_starts c.args.table.now (clause_of c.args.codes.now) m.end (all_clause (λ x. x < m.end) c.args.codes.now (All-weaker (λ x. (m.low ≤ x) × (x < m.end)) (λ x. x < m.end) (λ x w. w.1) c.args.codes.now c.mark-marks.ensures.within))
 
 -- at a marked code
 module _ (c : goal.Then-marks-code) where
@@ -60,4 +60,4 @@ returns c =
     let m = c.mark-marks.result in
     let i = c.loop-code.code in
     let last : i ≤ m.low = omega arith in
-    chain_ends _ _ i _ _ (all_clause (λ x. i ≤ x) c.args.codes.now (AllWeaker (λ x. (m.low ≤ x) × (x < m.end)) (λ x. i ≤ x) (λ x w. omega (arith, w.0)) c.args.codes.now c.mark-marks.ensures.within)) c.loop-code.invariant
+    chain_ends _ _ i _ _ (all_clause (λ x. i ≤ x) c.args.codes.now (All-weaker (λ x. (m.low ≤ x) × (x < m.end)) (λ x. i ≤ x) (λ x w. omega (arith, w.0)) c.args.codes.now c.mark-marks.ensures.within)) c.loop-code.invariant

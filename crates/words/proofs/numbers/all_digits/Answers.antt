@@ -10,7 +10,7 @@ returns-then-not-is-ascii-digit c =
 
 pub loop-b-preserved : goal.loop-b-preserved
 loop-b-preserved c =
-    sym (digit_step c.args.bytes.now c.loop-b.b-index true c.loop-b-test.true (sym c.if-not-is-ascii-digit.ensures.value)) ∙ c.loop-b.invariant
+    sym (digit_step c.args.bytes.now c.loop-b.b-index true c.loop-b-test.true (sym c.if-not-is_ascii_digit.ensures.value)) ∙ c.loop-b.invariant
 
 pub returns : goal.returns
 returns c = sym (at_drop_all all_digits c.args.bytes.now c.loop-b.b-index c.loop-b-test.false) ∙ c.loop-b.invariant

@@ -11,7 +11,7 @@ use Rattle.words.proofs.numbers.literal.Goals.{After-number}
 by_tail : (c : After-number) → read_literal c.args.max c.args.bytes.now ≡ negated c.number.result
 by_tail c =
     let xs = c.args.bytes.now in
-    let some : 0 < length xs = omega (arith, eqb-false (length xs) 0 (sym c.if-is-empty.ensures)) in
+    let some : 0 < length xs = omega (arith, eqb-false (length xs) 0 (sym c.if-is_empty.ensures)) in
     minus_is c.args.max xs some (sym c.from.ensures ∙ c.in-45.is) ∙ ap negated (ap (read_number c.args.max) (sym (take_rest xs 1)) ∙ sym c.number.ensures.value)
 
 pub returns-in-err-variable : goal.returns-in-err-variable
@@ -21,12 +21,12 @@ returns-in-err-variable c =
 
 pub returns-then-variable-eq0 : goal.returns-then-variable-eq0
 returns-then-variable-eq0 c = record {
-  value = sym (by_tail (goal.at.returns-then-variable-eq0 c).After-number ∙ ap negated c.in-ok-variable.was ∙ cond-true (eqb c.in-ok-variable.variable 0) _ _ (eq-eqb c.in-ok-variable.variable 0 c.if-variable-eq0.true));
+  value = sym (by_tail (goal.at.returns-then-variable-eq0 c).After-number ∙ ap negated c.in_ok-variable-in-45.was ∙ cond-true (eqb c.in_ok-variable-in-45.variable 0) _ _ (eq-eqb c.in_ok-variable-in-45.variable 0 c.if-variable-eq0.true));
   bound = tt;
 }
 
 pub returns-else-variable-eq0 : goal.returns-else-variable-eq0
 returns-else-variable-eq0 c = record {
-  value = sym (by_tail (goal.at.returns-else-variable-eq0 c).After-number ∙ ap negated c.in-ok-variable.was ∙ cond-false (eqb c.in-ok-variable.variable 0) _ _ (ne_eqb c.in-ok-variable.variable 0 c.if-variable-eq0.false));
+  value = sym (by_tail (goal.at.returns-else-variable-eq0 c).After-number ∙ ap negated c.in_ok-variable-in-45.was ∙ cond-false (eqb c.in_ok-variable-in-45.variable 0) _ _ (ne_eqb c.in_ok-variable-in-45.variable 0 c.if-variable-eq0.false));
   bound = search rules;
 }

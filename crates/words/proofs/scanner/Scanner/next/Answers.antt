@@ -6,7 +6,7 @@ use Rattle.words.proofs.scanner.Scanner.next.Goals as goal
 pub returns-then-at-text : goal.returns-then-at-text
 returns-then-at-text c = record {
   same = refl;
-  ended = past (gap _) c.run-end-end.result c.args.self.now.text.now c.run-end-end.result (omega arith);
+  ended = past (gap _) c.run_end-end.result c.args.self.now.text.now c.run_end-end.result (omega arith);
   cases = sym c.skip-at.ensures.same ∙ past (gap c.skip-at.result.1) c.skip-at.result.0 c.args.self.now.text.now c.skip-at.result.0 (omega arith);
 }
 
@@ -18,5 +18,5 @@ returns c =
     record {
       same = refl;
       ended = tt;
-      cases = sym c.skip-at.ensures.same ∙ one_word xs c.skip-at.result.1 at c.run-end-end.result lt (c.skip-at.ensures.stops lt) (c.run-end-end.ensures.same _) c.run-end-end.ensures.stops;
+      cases = sym c.skip-at.ensures.same ∙ one_word xs c.skip-at.result.1 at c.run_end-end.result lt (c.skip-at.ensures.stops lt) (c.run_end-end.ensures.same _) c.run_end-end.ensures.stops;
     }
