@@ -46,7 +46,7 @@ fn on_line<'a>(line: &[u8], follows: &'a [u8]) -> Option<(Call<'a>, &'a [u8])>
     if let Some(word) = after(line, b"write ") {
         return write(word, follows);
     }
-    if line == b"forget" {
+    if line == b"forget".as_slice() {
         return Some((Call::Forget, follows));
     }
     None
