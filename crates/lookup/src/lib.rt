@@ -17,10 +17,10 @@ pub trait Keyed<K> {
 // The place of the first record that has the key; `None` if no record has it.
 pub fn find<K, R: Keyed<K>>(records: &[R], key: &K) -> Option<usize>
     ensures { MatchOption result
-        (AllWithin (λ x. has x key.now → ⊥) records.now 0 (length records.now))
+        (AllWithin (λ x. R.has x key.now → ⊥) records.now 0 (length records.now))
         (λ i. (i < length records.now)
-        × HoldsAt (λ x. has x key.now) records.now i
-        × AllWithin (λ x. has x key.now → ⊥) records.now 0 i) }
+        × HoldsAt (λ x. R.has x key.now) records.now i
+        × AllWithin (λ x. R.has x key.now → ⊥) records.now 0 i) }
 {
     for (i, record) in records.iter().enumerate() {
         if record.is(key) {
