@@ -4,9 +4,9 @@ use Rattle.words.specs.Numbers.{all_digits}
 use Rattle.words.proofs.Digits.{digit_step}
 use Rattle.words.proofs.numbers.all_digits.Goals as goal
 
-pub returns-then-not-is-ascii-digit : goal.returns-then-not-is-ascii-digit
-returns-then-not-is-ascii-digit c =
-    sym (digit_step c.args.bytes.now c.loop-b.b-index false c.loop-b-test.true (sym c.if-not-is-ascii-digit.ensures.value)) ∙ c.loop-b.invariant
+pub returns-then-not-is_ascii_digit : goal.returns-then-not-is_ascii_digit
+returns-then-not-is_ascii_digit c =
+    sym (digit_step c.args.bytes.now c.loop-b.b-index false c.loop-b-test.true (sym c.if-not-is_ascii_digit.ensures.value)) ∙ c.loop-b.invariant
 
 pub loop-b-preserved : goal.loop-b-preserved
 loop-b-preserved c =

@@ -14,10 +14,10 @@ by_tail c =
     let some : 0 < length xs = omega (arith, eqb-false (length xs) 0 (sym c.if-is_empty.ensures)) in
     minus_is c.args.max xs some (sym c.from.ensures ∙ c.in-45.is) ∙ ap negated (ap (read_number c.args.max) (sym (take_rest xs 1)) ∙ sym c.number.ensures.value)
 
-pub returns-in-err-variable : goal.returns-in-err-variable
-returns-in-err-variable c =
-    let p = err_from_is_err_and c.from-residual.result c.from-residual.ensures.1 in
-    record { value = p.1 ∙ ap Err p.2 ∙ sym (by_tail (goal.at.returns-in-err-variable c).After-number ∙ ap negated c.in-err-variable.was); bound = rw p.1 tt }
+pub returns-in_err-variable-in-45 : goal.returns-in_err-variable-in-45
+returns-in_err-variable-in-45 c =
+    let p = err_from_is_err_and c.from_residual.result c.from_residual.ensures.1 in
+    record { value = p.1 ∙ ap Err p.2 ∙ sym (by_tail (goal.at.returns-in_err-variable-in-45 c).After-number ∙ ap negated c.in_err-variable-in-45.was); bound = rw p.1 tt }
 
 pub returns-then-variable-eq0 : goal.returns-then-variable-eq0
 returns-then-variable-eq0 c = record {

@@ -1,11 +1,11 @@
-use Rattle.std.proofs.Common.{◌≡◌, ℕ, ◌+◌, ◌-◌, ◌*◌, ◌^◌, drop, sym, ap, ◌∙◌, pow-suc, add-one, arith}
+use Rattle.std.proofs.Common.{◌≡◌, ℕ, ◌+◌, ◌*◌, ◌^◌, drop, sym, ap, ◌∙◌, pow-suc, add-one, arith}
 use Rattle.std.proofs.lemmas.List.{at_drop_all}
 use Rattle.words.specs.Numbers.{value_from}
 use Rattle.words.proofs.Digits.{digits_on, value_step}
 use Rattle.words.proofs.numbers.value.Goals as goal
 
-pub overflow-sub-b : goal.overflow-sub-b
-overflow-sub-b c = (digits_on c.args.bytes.now c.loop-b.b-index c.loop-b-test.true c.loop-b.invariant.1).0
+pub overflow_sub-b : goal.overflow_sub-b
+overflow_sub-b c = (digits_on c.args.bytes.now c.loop-b.b-index c.loop-b-test.true c.loop-b.invariant.1).0
 
 pub loop-b-preserved : goal.loop-b-preserved
 loop-b-preserved c =
