@@ -49,8 +49,8 @@ flag : (c : goal.After-add) → c.if-has-2.both_signs ≡ (c.loop-literal.both_s
 flag c =
     let found = sym (ap (λ (k : ℕ). get_or c.loop-literal.marks.at k false) c.opposite.ensures) ∙ sym c.has-in-loop-literal.ensures in
     elim c.if-has-2.branch [
-      | then-has-2 w ↦ w.both-signs-is ∙ raised c.loop-literal.both_signs _ (found ∙ w.if-has-2.true)
-      | else-has-2 w ↦ w.both-signs-is ∙ unraised c.loop-literal.both_signs _ (found ∙ w.if-has-2.false)
+      | then-has-2 w ↦ w.both_signs-is ∙ raised c.loop-literal.both_signs _ (found ∙ w.if-has-2.true)
+      | else-has-2 w ↦ w.both_signs-is ∙ unraised c.loop-literal.both_signs _ (found ∙ w.if-has-2.false)
     ]
 
 pub loop-literal-preserved : goal.loop-literal-preserved
@@ -65,10 +65,10 @@ loop-literal-preserved c =
 taken : (c : After-loop-literal) → Progress c.loop-literal.marks.at c.loop-literal.codes c.loop-literal.len c.loop-literal.both_signs c.args.literals.now
 taken c = subst (Progress _ _ _ _) (take_all c.loop-literal.literal-index c.args.literals.now c.loop-literal-test.false) c.loop-literal.invariant
 
-pub invariant-of-result : goal.invariant-of-result
-invariant-of-result c =
+pub invariant_of-result : goal.invariant_of-result
+invariant_of-result c =
     let p = taken c in
-    (p.long, (p.fits, (progress_small _ p c.requires, (progress_apart _ p, (progress_marked _ p, tt)))))
+    record { long = p.long; fits = p.fits; small = progress_small _ p c.requires; apart = progress_apart _ p; marked = progress_marked _ p }
 
 pub returns : goal.returns
 returns c = let p = taken (goal.at.returns c).After-loop-literal in record { codes = p.written; flag = p.searched }
