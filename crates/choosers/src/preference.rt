@@ -16,7 +16,7 @@ pub trait Preference {
 // The position of the best candidate, and of the first among equals.
 pub fn preferred_position<P: Preference>(preference: &P, candidates: &[Candidate]) -> u16
     requires { 0 < length candidates.now }
-    ensures { result ≡ preferred (beats preference.now) candidates.now }
+    ensures { result ≡ preferred (P.beats preference.now) candidates.now }
 {
     let mut best = candidates[0];
     for candidate in candidates {
