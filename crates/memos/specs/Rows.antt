@@ -1,5 +1,5 @@
 -- Rows of pairs.
-use Rattle.std.specs.Prelude.{◌≡◌, ℕ, ◌<◌, false, cond, List, [], ◌∷◌, Some, None, ◌==◌, ◌≢◌, slice_index_or}
+use Rattle.std.specs.Prelude.{ℕ, ◌<◌, false, cond, List, [], ◌∷◌, Some, None, ◌==◌, ◌≢◌, slice_index_or}
 use Rattle.qbf.specs.Memo.{Pairs}
 use Rattle.memos.specs.declared.pair.Pair.{Pair}
 
