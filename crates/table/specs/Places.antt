@@ -1,6 +1,6 @@
 -- Nodes in their places, the rules that they keep, and what they stand for.
 -- The node at the place k has the number k + 2. Number 0 is the empty set and 1 the set of only the empty clause.
-use Rattle.std.specs.Prelude.{◌≡◌, ℕ, zero, suc, ◌+◌, ◌-◌, ◌<◌, ◌≤◌, cond, List, [], ◌∷◌, ◌==◌, ◌≢◌, slice_index_or}
+use Rattle.std.specs.Prelude.{ℕ, zero, suc, ◌+◌, ◌-◌, ◌<◌, ◌≤◌, cond, List, [], ◌∷◌, ◌==◌, ◌≢◌, slice_index_or}
 use Rattle.sets.specs.Sides.{joined}
 use Rattle.table.specs.declared.node.Node.{Node}
 

@@ -11,11 +11,11 @@ returns-in-Some c =
 pub unreachable-requires : goal.unreachable-requires
 unreachable-requires c =
     let long : length c.args.self.now.at ≡ 8192 = search rules in
-    let full = sought_nowhere _ _ _ _ _ long (omega arith) c.in-default.ensures c.in-None.ensures in
+    let full = sought_nowhere _ _ _ _ _ long (omega arith) c.in_default.ensures c.in-None.ensures in
     omega (arith, c.requires.room)
 
 pub returns : goal.returns
 returns c =
     let h = c.in-Some-find.ensures in
     let long : length c.args.self.now.at ≡ 8192 = search rules in
-    sought_of _ _ (omega (arith, c.requires.fits, c.args.nodes.now.long)) _ _ _ (sought_round _ _ _ _ _ long (omega arith) c.home-start.ensures c.in-default.ensures _ h.0 h.1 h.2)
+    sought_of _ _ (omega (arith, c.requires.fits, c.args.nodes.now.long)) _ _ _ (sought_round _ _ _ _ _ long (omega arith) c.home-start.ensures c.in_default.ensures _ h.0 h.1 h.2)
