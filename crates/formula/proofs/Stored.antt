@@ -1,5 +1,5 @@
 -- The arrays of the stored clauses.
-use Rattle.std.proofs.Common.{◌≡◌, ℕ, ◌+◌, ◌-◌, ◌<◌, ◌≤◌, true, List, [], ◌∷◌, ◌++◌, length, get_or, take, drop, set, sym, refl, ap, ◌∙◌, arith}
+use Rattle.std.proofs.Common.{◌≡◌, ℕ, ◌+◌, ◌<◌, ◌≤◌, true, List, [], ◌∷◌, ◌++◌, length, get_or, take, drop, set, sym, ap, ◌∙◌, arith}
 use borrow.Rule.Slice.PartMut.{put_mid}
 use Rattle.std.proofs.lemmas.List.{length-take-le, length-drop, take_more_set, take-set-le, drop-set-add}
 use Rattle.std.proofs.lemmas.Slice.{take-put_mid_below, between-put_mid}
@@ -7,7 +7,7 @@ use Rattle.std.specs.List.{between}
 use Rattle.formula.specs.declared.clauses.ClauseList.{ClauseList}
 use Rattle.formula.specs.Ends.{climbs, clauses_from, beginning}
 use Rattle.formula.specs.Views.{clauses_of, begun_of}
-use Rattle.formula.proofs.Ends.{as_many, clause_at, climbs_at, climbs_on, clauses_push, clauses_same, end_at}
+use Rattle.formula.proofs.Ends.{as_many, clause_at, climbs_at, climbs_on, clauses_push, clauses_same}
 
 -- as many clauses as ends are in use
 pub as_stored : (t : ClauseList) → t.len ≤ length t.ends → length (clauses_of t) ≡ t.len

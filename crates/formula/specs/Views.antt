@@ -1,5 +1,5 @@
 -- What the arrays of a formula stand for.
-use Rattle.std.specs.Prelude.{◌≡◌, ℕ, List, [], ◌∷◌, take, drop}
+use Rattle.std.specs.Prelude.{◌≡◌, ℕ, List, [], take, drop}
 use Rattle.formula.specs.declared.Formula.{Formula}
 use Rattle.formula.specs.declared.clauses.ClauseList.{ClauseList}
 use Rattle.formula.specs.declared.prefix.Binding.{Binding}

@@ -67,7 +67,7 @@ taken c = subst (Progress _ _ _ _) (take_all c.loop-literal.literal-index c.args
 
 pub invariant_of-result : goal.invariant_of-result
 invariant_of-result c =
-    let p = taken c in
+    let p = taken (goal.at.invariant_of-result c).After-loop-literal in
     record { long = p.long; fits = p.fits; small = progress_small _ p c.requires; apart = progress_apart _ p; marked = progress_marked _ p }
 
 pub returns : goal.returns

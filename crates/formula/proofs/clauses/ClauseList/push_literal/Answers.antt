@@ -6,11 +6,11 @@ use Rattle.formula.proofs.clauses.ClauseList.push_literal.Goals as goal
 pub bounds-self-self : goal.bounds-self-self
 bounds-self-self c = omega (arith, c.requires, as_begun c.args.self.now)
 
-pub invariant-of-self : goal.invariant-of-self
-invariant-of-self c =
+pub invariant_of-self : goal.invariant_of-self
+invariant_of-self c =
     let t = c.args.self.now in
     let n = as_begun t in
-    (length-set t.literals (t.used + t.begun) c.args.code ∙ t.long, (omega (arith, c.requires), (t.fits, (t.ordered, tt))))
+    record { long = length-set t.literals (t.used + t.begun) c.args.code ∙ t.long; room = omega (arith, c.requires); fits = t.fits; ordered = t.ordered }
 
 pub returns : goal.returns
 returns c =

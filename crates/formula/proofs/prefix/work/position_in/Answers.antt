@@ -1,6 +1,5 @@
-use Rattle.std.proofs.Common.{◌≡◌, true, false, sym, ap, ◌∙◌}
+use Rattle.std.proofs.Common.{sym, ◌∙◌}
 use Rattle.std.proofs.lemmas.List.{at_drop_all}
-use Rattle.std.proofs.lemmas.Bool.{eq-eqb, ne_eqb}
 use Rattle.formula.specs.Positions.{position_from}
 use Rattle.formula.proofs.Positions.{found_here, goes_on}
 use Rattle.formula.proofs.prefix.work.position_in.Goals as goal
