@@ -1,7 +1,7 @@
 -- The preferred candidate is listed and unbeaten, and a loop finds it.
 use Rattle.std.specs.Prelude.{◌≡◌, ℕ, zero, suc, ◌+◌, ◌<◌, ◌≤◌, Bool, false, cond, List, [], ◌∷◌, length, drop, slice_index_or, refl}
 use Rattle.std.proofs.Common.{sym, ap, subst, ◌∙◌, inl, inr, ⊎_elim, arith}
-use Rattle.std.specs.List.{AllByRecursion as All, best_of}
+use Rattle.std.specs.List.{AllByRecursion, best_of}
 use Rattle.std.specs.Cmp.{IsStrictWeakOrder}
 use Rattle.std.proofs.lemmas.List.MinMax.{IsStrictWeakOrder-by_number, IsFirstBest-from_best_of}
 use Rattle.std.proofs.ByRecursion.{All-from_get_or, All-weaker}
@@ -29,10 +29,10 @@ module _ (beats : Candidate → Candidate → Bool) (ranks : IsStrictWeakOrder b
       let b = IsFirstBest-from_best_of ranks c cs in
       subst (λ x. In x (c ∷ cs)) b.2 (in_get_d (c ∷ cs) b.0 c b.1.0)
 
-  best_unbeaten : All (λ d. beats d (best_of beats c cs) ≡ false) (c ∷ cs)
+  best_unbeaten : AllByRecursion (λ d. beats d (best_of beats c cs) ≡ false) (c ∷ cs)
   best_unbeaten =
       let b = IsFirstBest-from_best_of ranks c cs in
-      subst (λ x. All (λ d. beats d x ≡ false) (c ∷ cs)) b.2 (All-from_get_or _ (c ∷ cs) c (λ k h. b.1.1 k c h))
+      subst (λ x. AllByRecursion (λ d. beats d x ≡ false) (c ∷ cs)) b.2 (All-from_get_or _ (c ∷ cs) c (λ k h. b.1.1 k c h))
 
 preferred_listed : (beats : Candidate → Candidate → Bool) → IsStrictWeakOrder beats → Picks (preferred beats)
 preferred_listed beats ranks [] h = absurd (omega arith)

@@ -1,6 +1,6 @@
 -- What holds of every clause.
 use Rattle.std.proofs.Common.{◌≡◌, ◌<◌, ◌≤◌, length, arith}
-use Rattle.std.specs.List.{AllByRecursion as All}
+use Rattle.std.specs.List.{AllByRecursion}
 use Rattle.std.proofs.lemmas.List.{length-take-le}
 use Rattle.qbf.specs.Lists.{Distinct}
 use Rattle.clause.specs.declared.Clause.{Clause}
@@ -14,7 +14,7 @@ front c = let f = c.fits in let g = c.long in omega arith
 pub codes_length : (c : Clause) → length (codes_of c) ≡ c.len
 codes_length c = length-take-le c.len c.codes (front c)
 
-pub codes_small : (c : Clause) → All (λ x. x < 512) (codes_of c)
+pub codes_small : (c : Clause) → AllByRecursion (λ x. x < 512) (codes_of c)
 codes_small c = front_all c.codes c.len 512 (front c) c.small
 
 pub codes_distinct : (c : Clause) → Distinct (codes_of c)

@@ -1,6 +1,6 @@
 -- Membership, removal and distinctness in lists of codes.
 use Rattle.std.proofs.Common.{◌≡◌, ℕ, zero, suc, ◌<◌, ◌≤◌, true, false, eqb, ◌⊎◌, List, [], ◌∷◌, ◌++◌, length, get_or, Decides, sym, refl, ap, ◌∙◌, subst, inl, inr, ⊎_elim, arith}
-use Rattle.std.specs.List.{AllByRecursion as All}
+use Rattle.std.specs.List.{AllByRecursion}
 use Rattle.std.proofs.lemmas.Bool.{both_ways, cases_eq, cases_Bool, cond-true, cond-false, cond_both, eq-eqb, eqb-true, eqb-false, or_left, or_right, or_cases}
 use Rattle.qbf.specs.Lists.{In, Distinct, mem, without}
 
@@ -47,19 +47,19 @@ in_get_d (x ∷ xs) (suc i) h = inr (in_get_d xs i (omega arith))
 
 -- what holds of each element
 
-pub all_in : (P : ℕ → Type 0) (cs : List ℕ) (k : ℕ) → All P cs → In k cs → P k
+pub all_in : (P : ℕ → Type 0) (cs : List ℕ) (k : ℕ) → AllByRecursion P cs → In k cs → P k
 all_in P [] k a i = elim i [ ]
 all_in P (c ∷ cs) k a (inl e) = subst P (sym e) a.0
 all_in P (c ∷ cs) k a (inr i) = all_in P cs k a.1 i
 
-pub all_from_in : (P : ℕ → Type 0) (cs : List ℕ) → ((k : ℕ) → In k cs → P k) → All P cs
+pub all_from_in : (P : ℕ → Type 0) (cs : List ℕ) → ((k : ℕ) → In k cs → P k) → AllByRecursion P cs
 all_from_in P [] h = tt
 all_from_in P (c ∷ cs) h = (h c (inl refl), all_from_in P cs (λ k i. h k (inr i)))
 
-pub apart_in : (x : ℕ) (cs : List ℕ) → All (λ y. x ≡ y → ⊥) cs → In x cs → ⊥
+pub apart_in : (x : ℕ) (cs : List ℕ) → AllByRecursion (λ y. x ≡ y → ⊥) cs → In x cs → ⊥
 apart_in x cs a i = all_in (λ y. x ≡ y → ⊥) cs x a i refl
 
-pub apart_from_in : (x : ℕ) (cs : List ℕ) → (In x cs → ⊥) → All (λ y. x ≡ y → ⊥) cs
+pub apart_from_in : (x : ℕ) (cs : List ℕ) → (In x cs → ⊥) → AllByRecursion (λ y. x ≡ y → ⊥) cs
 apart_from_in x cs n = all_from_in (λ y. x ≡ y → ⊥) cs (λ k i e. n (subst (λ (q : ℕ). In q cs) (sym e) i))
 
 -- taking a code out
@@ -79,10 +79,10 @@ without_in k x (c ∷ cs) i n =
     (λ e. without_in k x cs (⊎_elim (λ f. absurd (n (f ∙ sym (eqb-true x c e)))) (λ j. j) i) n)
     (λ e. ⊎_elim (λ f. inl f) (λ j. inr (without_in k x cs j n)) i)
 
-pub all_without : (P : ℕ → Type 0) (x : ℕ) (cs : List ℕ) → All P cs → All P (without x cs)
+pub all_without : (P : ℕ → Type 0) (x : ℕ) (cs : List ℕ) → AllByRecursion P cs → AllByRecursion P (without x cs)
 all_without P x [] a = tt
 all_without P x (c ∷ cs) a =
-    cond_both (eqb x c) (without x cs) (c ∷ without x cs) (All P) (λ e. all_without P x cs a.1) (λ e. (a.0, all_without P x cs a.1))
+    cond_both (eqb x c) (without x cs) (c ∷ without x cs) (AllByRecursion P) (λ e. all_without P x cs a.1) (λ e. (a.0, all_without P x cs a.1))
 
 pub without_distinct : (x : ℕ) (cs : List ℕ) → Distinct cs → Distinct (without x cs)
 without_distinct x [] d = tt
@@ -91,7 +91,7 @@ without_distinct x (c ∷ cs) d =
     (λ e. without_distinct x cs d.1)
     (λ e. (all_without (λ y. c ≡ y → ⊥) x cs d.0, without_distinct x cs d.1))
 
-pub without_apart : (x : ℕ) (cs : List ℕ) → All (λ y. x ≡ y → ⊥) (without x cs)
+pub without_apart : (x : ℕ) (cs : List ℕ) → AllByRecursion (λ y. x ≡ y → ⊥) (without x cs)
 without_apart x cs = apart_from_in x (without x cs) (λ i. (without_out x x cs i).1 refl)
 
 pub without_append : (x : ℕ) (xs ys : List ℕ) → without x (xs ++ ys) ≡ without x xs ++ without x ys
@@ -136,7 +136,7 @@ length_below zero = refl
 length_below (suc n) = ap suc (length_below n)
 
 -- distinct codes below n are at most n
-pub distinct_length : (n : ℕ) (xs : List ℕ) → Distinct xs → All (λ c. c < n) xs → length xs ≤ n
+pub distinct_length : (n : ℕ) (xs : List ℕ) → Distinct xs → AllByRecursion (λ c. c < n) xs → length xs ≤ n
 distinct_length n xs d a =
     let h = length_inside xs (below n) d (λ k i. in_below n k (all_in (λ c. c < n) xs k a i)) in
     let e = length_below n in

@@ -1,6 +1,6 @@
 -- Distinct and small codes, said by places.
 use Rattle.std.proofs.Common.{◌≡◌, ℕ, zero, suc, ◌<◌, ◌≤◌, List, [], ◌∷◌, length, get_or, take, sym, ◌∙◌, subst, arith}
-use Rattle.std.specs.List.{AllByRecursion as All}
+use Rattle.std.specs.List.{AllByRecursion}
 use Rattle.std.proofs.lemmas.List.{get_or-take, length-take-le}
 use Rattle.std.proofs.ByRecursion.{All-get_or, All-from_get_or}
 use Rattle.qbf.specs.Lists.{Distinct}
@@ -32,12 +32,12 @@ front_distinct xs n l a =
     let t = length-take-le n xs l in
     distinct_from_apart (take n xs) (λ j k h m e. a j k h (omega arith) (sym (get_or-take n xs j 0 (omega arith)) ∙ e ∙ get_or-take n xs k 0 (omega arith)))
 
-pub front_small : (xs : List ℕ) (n b : ℕ) → n ≤ length xs → All (λ c. c < b) (take n xs) → (k : ℕ) → k < n → get_or xs k 0 < b
+pub front_small : (xs : List ℕ) (n b : ℕ) → n ≤ length xs → AllByRecursion (λ c. c < b) (take n xs) → (k : ℕ) → k < n → get_or xs k 0 < b
 front_small xs n b l a k h =
     let t = length-take-le n xs l in
     subst (λ (q : ℕ). q < b) (get_or-take n xs k 0 h) (All-get_or (λ c. c < b) (take n xs) k 0 (omega arith) a)
 
-pub front_all : (xs : List ℕ) (n b : ℕ) → n ≤ length xs → ((k : ℕ) → k < n → get_or xs k 0 < b) → All (λ c. c < b) (take n xs)
+pub front_all : (xs : List ℕ) (n b : ℕ) → n ≤ length xs → ((k : ℕ) → k < n → get_or xs k 0 < b) → AllByRecursion (λ c. c < b) (take n xs)
 front_all xs n b l a =
     let t = length-take-le n xs l in
     All-from_get_or (λ c. c < b) (take n xs) 0 (λ i h. let g = a i (omega arith) in subst (λ (q : ℕ). q < b) (sym (get_or-take n xs i 0 (omega arith))) g)

@@ -1,6 +1,6 @@
 -- A clause under way: the literals taken so far.
 use Rattle.std.proofs.Common.{◌≡◌, ℕ, ◌+◌, ◌<◌, ◌≤◌, Bool, true, false, ◌||◌, List, [], ◌∷◌, ◌++◌, length, get_or, take, set, sym, refl, ap, ◌∙◌, subst, arith}
-use Rattle.std.specs.List.{AllByRecursion as All}
+use Rattle.std.specs.List.{AllByRecursion}
 use Rattle.std.proofs.lemmas.List.{length-set, length-take-le, take_more_set}
 use Rattle.std.proofs.lemmas.Bool.{or_right}
 use Rattle.qbf.specs.Literals.{complement}
@@ -40,7 +40,7 @@ progress_old {m} {codes} {len} {flag} xs x p e =
     }
 
 -- there is room for a new literal: distinct codes below 512 are at most 512
-pub progress_room : {m : List Bool} {codes : List ℕ} {len : ℕ} {flag : Bool} (xs : List ℕ) (x : ℕ) → Progress m codes len flag xs → All (λ c. c < 512) xs → x < 512 → get_or m x false ≡ false → len < 512
+pub progress_room : {m : List Bool} {codes : List ℕ} {len : ℕ} {flag : Bool} (xs : List ℕ) (x : ℕ) → Progress m codes len flag xs → AllByRecursion (λ c. c < 512) xs → x < 512 → get_or m x false ≡ false → len < 512
 progress_room {m} {codes} {len} {flag} xs x p a h e =
     let n : In x xs → ⊥ = mem_not_in x xs (sym (p.marked x) ∙ e) in
     let f = p.fits in
@@ -64,11 +64,11 @@ progress_new {m} {codes} {len} {flag} xs x p h r e {m'} {flag'} l me fe =
     }
 
 -- what is written is small and distinct
-pub progress_small : {m : List Bool} {codes : List ℕ} {len : ℕ} {flag : Bool} (xs : List ℕ) → Progress m codes len flag xs → All (λ c. c < 512) xs → (k : ℕ) → k < len → get_or codes k 0 < 512
+pub progress_small : {m : List Bool} {codes : List ℕ} {len : ℕ} {flag : Bool} (xs : List ℕ) → Progress m codes len flag xs → AllByRecursion (λ c. c < 512) xs → (k : ℕ) → k < len → get_or codes k 0 < 512
 progress_small {m} {codes} {len} {flag} xs p a =
     let f = p.fits in
     let g = p.long in
-    front_small codes len 512 (omega arith) (subst (All (λ c. c < 512)) (sym p.written) (once_all (λ c. c < 512) xs a))
+    front_small codes len 512 (omega arith) (subst (AllByRecursion (λ c. c < 512)) (sym p.written) (once_all (λ c. c < 512) xs a))
 
 pub progress_apart : {m : List Bool} {codes : List ℕ} {len : ℕ} {flag : Bool} (xs : List ℕ) → Progress m codes len flag xs → Apart codes len
 progress_apart {m} {codes} {len} {flag} xs p =

@@ -1,6 +1,6 @@
 -- The laws of 'each literal once', 'both signs' and 'the same literals'.
 use Rattle.std.proofs.Common.{◌≡◌, ℕ, ◌<◌, ◌≤◌, Bool, true, false, ◌||◌, eqb, ◌⊎◌, List, [], ◌∷◌, ◌++◌, length, Decides, sym, refl, ap, ◌∙◌, subst, inl, inr, ⊎_elim, append-nil, arith}
-use Rattle.std.specs.List.{AllByRecursion as All}
+use Rattle.std.specs.List.{AllByRecursion}
 use Rattle.std.proofs.lemmas.Bool.{both_ways, cases_eq, cond-true, cond-false, eq-eqb, ne_eqb, or_left, or_right, or_cases, and_parts, and_from}
 use Rattle.std.proofs.lemmas.Bool.Decides.{same_from_decides, Decides-like, Decides-and, Decides-or}
 use Rattle.qbf.specs.Literals.{complement}
@@ -35,7 +35,7 @@ once_length (c ∷ cs) =
     let l = length_without c (once cs) in
     omega arith
 
-pub once_all : (P : ℕ → Type 0) (cs : List ℕ) → All P cs → All P (once cs)
+pub once_all : (P : ℕ → Type 0) (cs : List ℕ) → AllByRecursion P cs → AllByRecursion P (once cs)
 once_all P [] a = tt
 once_all P (c ∷ cs) a = (a.0, all_without P c (once cs) (once_all P cs a.1))
 

@@ -1,6 +1,6 @@
 -- A clause is a set of literals; as it was written, it is a list of their codes.
 use Rattle.std.specs.Prelude.{◌≡◌, ℕ, ◌<◌, ◌≤◌, Bool, true, false, ◌&&◌, ◌||◌, List, [], ◌∷◌, length, Decides}
-use Rattle.std.specs.List.{AllByRecursion as All}
+use Rattle.std.specs.List.{AllByRecursion}
 use Rattle.qbf.specs.Literals.{complement}
 use Rattle.qbf.specs.Lists.{In, Distinct, mem, without}
 
@@ -39,7 +39,7 @@ pub record SetLaws (cs : List ℕ) : Type 0 where
   -- none stands there twice
   pub once_distinct : Distinct (once cs)
   pub once_length : length (once cs) ≤ length cs
-  pub once_small : (n : ℕ) → All (λ c. c < n) cs → All (λ c. c < n) (once cs)
+  pub once_small : (n : ℕ) → AllByRecursion (λ c. c < n) cs → AllByRecursion (λ c. c < n) (once cs)
   -- 'both signs' tells whether a literal and its complement both stand in the list
   pub signs : Decides (both_signs cs) ((k : ℕ) × In k cs × In (complement k) cs)
   pub same_itself : same_set cs cs ≡ true

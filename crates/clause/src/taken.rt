@@ -1,6 +1,6 @@
 // A clause taken from the literals as written, and what is asked of it.
 ghost use Rattle.std.specs.Prelude.{◌≡◌, ◌<◌};
-ghost use Rattle.std.specs.List.{AllByRecursion as All};
+ghost use Rattle.std.specs.List.{AllByRecursion};
 ghost use Rattle.qbf.specs.Lists.{Distinct};
 ghost use Rattle.clause.specs.Once.{once, both_signs, same_set};
 ghost use Rattle.clause.specs.Codes.{codes_of};
@@ -12,7 +12,7 @@ use qbf::opposite;
 impl Clause {
     // The clause of the literals as they were written: a repeated literal is dropped.
     pub fn of(literals: &[u16]) -> Clause
-        requires { All (λ c. c < 512) literals.now }
+        requires { AllByRecursion (λ c. c < 512) literals.now }
         ensures codes { codes_of result ≡ once literals.now }
         ensures flag { result.both_signs ≡ both_signs literals.now }
     {
@@ -57,7 +57,7 @@ impl Clause {
     // Whether the clause has the same literals as a stored one, in whatever order.
     // Each of the two has each literal once, so they are the same when they are as long and the one holds the other.
     pub fn same_literals(&self, stored: &[u16]) -> bool
-        requires small { All (λ c. c < 512) stored.now }
+        requires small { AllByRecursion (λ c. c < 512) stored.now }
         requires distinct { Distinct stored.now }
         ensures { result ≡ same_set (codes_of self.now) stored.now }
     {

@@ -1,7 +1,7 @@
 -- The candidates' positions are positions of the prefix.
 use Rattle.std.proofs.Common.{◌≡◌, ℕ, suc, ◌+◌, ◌-◌, ◌<◌, ◌≤◌, Bool, cond, List, [], ◌∷◌, map, length, ◌∙◌, subst, inl, inr, arith, length-take}
 use lib.ListN.{length-map}
-use Rattle.std.specs.List.{AllByRecursion as All}
+use Rattle.std.specs.List.{AllByRecursion}
 use Rattle.std.proofs.lemmas.Bool.{cond_both}
 use Rattle.qbf.specs.declared.Quantifier.{Quantifier}
 use Rattle.qbf.specs.declared.Candidate.{Candidate}
@@ -16,7 +16,7 @@ use Rattle.reduction.specs.Numbered.{quantifiers_of}
 
 -- the variables of a list are below a number
 abbrev Under : ℕ → List ℕ → Type 0
-Under top xs = All (λ x. x < top) xs
+Under top xs = AllByRecursion (λ x. x < top) xs
 
 under_cond : (top : ℕ) (b : Bool) (xs ys : List ℕ) → Under top xs → Under top ys → Under top (cond b xs ys)
 under_cond top b xs ys h k = cond_both b xs ys (Under top) (λ _. h) (λ _. k)

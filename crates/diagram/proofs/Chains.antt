@@ -1,6 +1,6 @@
 -- A clause from its highest code down.
 use Rattle.std.proofs.Common.{◌≡◌, ℕ, ◌+◌, ◌-◌, ◌<◌, ◌≤◌, true, false, not, ltb, List, [], ◌∷◌, Ok, Err, filter, sym, refl, ap, ◌∙◌, subst, inl, inr, arith}
-use Rattle.std.specs.List.{AllByRecursion as All}
+use Rattle.std.specs.List.{AllByRecursion}
 use Rattle.std.proofs.lemmas.Bool.Decides.{nat_tests}
 use Rattle.std.proofs.lemmas.Bool.{cases_lt, cond_both}
 use Rattle.qbf.specs.Lists.{mem}
@@ -20,11 +20,11 @@ use Rattle.diagram.proofs.Steps.{Set, made_as, grows_within}
 abbrev pub upper : ℕ → List ℕ → List ℕ
 upper i c = filter (λ x. not (ltb x i)) c
 
-pub upper_all : (i : ℕ) (c : List ℕ) → All (λ x. i ≤ x) c → upper i c ≡ c
+pub upper_all : (i : ℕ) (c : List ℕ) → AllByRecursion (λ x. i ≤ x) c → upper i c ≡ c
 upper_all i [] a = refl
 upper_all i (x ∷ c) a = let ih = upper_all i c a.1 in let l = a.0 in grind (arith, nat_tests)
 
-pub upper_none : (n : ℕ) (c : List ℕ) → All (λ x. x < n) c → upper n c ≡ []
+pub upper_none : (n : ℕ) (c : List ℕ) → AllByRecursion (λ x. x < n) c → upper n c ≡ []
 upper_none n [] a = refl
 upper_none n (x ∷ c) a = let ih = upper_none n c a.1 in let l = a.0 in grind (arith, nat_tests)
 
@@ -40,11 +40,11 @@ upper_take i (x ∷ c) r e =
     let s = upper_skip i c in
     grind (arith, nat_tests)
 
-upper_over : (i : ℕ) (c : List ℕ) → All (λ y. i < y) (upper (i + 1) c)
+upper_over : (i : ℕ) (c : List ℕ) → AllByRecursion (λ y. i < y) (upper (i + 1) c)
 upper_over i [] = tt
-upper_over i (x ∷ c) = let ih = upper_over i c in cond_both (not (ltb x (i + 1))) _ _ (All (λ y. i < y)) (λ e. (grind (arith, nat_tests), ih)) (λ e. ih)
+upper_over i (x ∷ c) = let ih = upper_over i c in cond_both (not (ltb x (i + 1))) _ _ (AllByRecursion (λ y. i < y)) (λ e. (grind (arith, nat_tests), ih)) (λ e. ih)
 
-upper_low : (i x : ℕ) (c : List ℕ) → i ≤ x → All (λ y. x < y) c → upper i c ≡ c
+upper_low : (i x : ℕ) (c : List ℕ) → i ≤ x → AllByRecursion (λ y. x < y) c → upper i c ≡ c
 upper_low i x [] l a = refl
 upper_low i x (y ∷ c) l a = let ih = upper_low i x c l a.1 in let h = a.0 in grind (arith, nat_tests)
 
@@ -61,7 +61,7 @@ pub record Chained (t : Table) (c : List ℕ) (i : ℕ) (u : Table) (n : ℕ) : 
   pub grows : Adds t ((c ∷ []) ∷ []) u
   pub is : Is (upper i c ∷ []) u n
 
-pub chain_starts : (t : Table) (c : List ℕ) (end : ℕ) → All (λ x. x < end) c → Chained t c end t 1
+pub chain_starts : (t : Table) (c : List ℕ) (end : ℕ) → AllByRecursion (λ x. x < end) c → Chained t c end t 1
 chain_starts t c end a = record {
   grows = adds_same t ((c ∷ []) ∷ []);
   is = record { held = omega arith; means = (ends_stand t).1 ∙ ap (λ z. z ∷ []) (sym (upper_none end c a)) };
@@ -98,5 +98,5 @@ module _ (t : Table) (c : List ℕ) (i : ℕ) (u : Table) (n : ℕ) (rises : Ris
       record { grows = adds_then t ((c ∷ []) ∷ []) u w h.grows (grows_within u (upper i c ∷ []) w (c ∷ []) (node_upper i c rises) j.grows); cases = misses_widen (upper i c ∷ []) w (c ∷ []) (node_upper i c rises) j.cases }
 
 -- down to a code that is at most the lowest
-pub chain_ends : (t : Table) (c : List ℕ) (i : ℕ) (u : Table) (n : ℕ) → All (λ x. i ≤ x) c → Chained t c i u n → Makes t (c ∷ []) u (Ok n)
+pub chain_ends : (t : Table) (c : List ℕ) (i : ℕ) (u : Table) (n : ℕ) → AllByRecursion (λ x. i ≤ x) c → Chained t c i u n → Makes t (c ∷ []) u (Ok n)
 chain_ends t c i u n a h = record { grows = h.grows; cases = subst (λ z. Is (z ∷ []) u n) (upper_all i c a) h.is }

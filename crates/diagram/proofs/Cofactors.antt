@@ -1,6 +1,6 @@
 -- Sets by their sides at a code.
 use Rattle.std.proofs.Common.{◌≡◌, ℕ, ◌<◌, ◌≤◌, List, [], ◌∷◌, sym, ap, ◌∙◌, subst, arith}
-use Rattle.std.specs.List.{AllByRecursion as All}
+use Rattle.std.specs.List.{AllByRecursion}
 use Rattle.std.proofs.ByRecursion.{All-weaker}
 use Rattle.qbf.specs.Clauses.{union}
 use Rattle.sets.specs.Sides.{Over, joined}
@@ -18,7 +18,7 @@ opened_leads t n x h o =
     (w.0, joined x.code w.1 (clauses t x.without), o.means ∙ ap (λ z. joined x.code z (clauses t x.without)) w.2)
 
 from_over : (j k : ℕ) (s : Set) → j ≤ k → Over k s → From j s
-from_over j k s l a = All-weaker (All (λ y. k < y)) (All (λ y. j ≤ y)) (λ c. All-weaker (λ y. k < y) (λ y. j ≤ y) (λ y h. omega arith) c) s a
+from_over j k s l a = All-weaker (AllByRecursion (λ y. k < y)) (AllByRecursion (λ y. j ≤ y)) (λ c. All-weaker (λ y. k < y) (λ y. j ≤ y) (λ y h. omega arith) c) s a
 
 from_joined : (j k : ℕ) (hi lo : Set) → j ≤ k → Over k hi → Over k lo → From j (joined k hi lo)
 from_joined j k [] lo l a b = from_over j k lo l b

@@ -1,6 +1,6 @@
 -- The marks of a list of codes.
 use Rattle.std.proofs.Common.{◌≡◌, ℕ, ◌+◌, ◌<◌, ◌≤◌, Bool, true, false, ◌||◌, eqb, List, [], ◌∷◌, ◌++◌, length, get_or, take, set, replicate, sym, refl, ap, ◌∙◌, subst, inl, inr, arith}
-use Rattle.std.specs.List.{AllByRecursion as All}
+use Rattle.std.specs.List.{AllByRecursion}
 use Rattle.std.proofs.ByRecursion.{All-push, All-weaker}
 use Rattle.std.proofs.lemmas.Bool.Decides.{nat_tests}
 use Rattle.std.proofs.lemmas.Bool.{cases_eq}
@@ -34,7 +34,7 @@ marked_more at codes i h low m = record { long = length-set at (get_or codes i 0
 
 -- the codes lie from `low` on, below `end`, which is a code or the first number that is none
 pub record Spanned (low end : ℕ) (codes : List ℕ) : Type 0 where
-  pub within : All (λ x. (low ≤ x) × (x < end)) codes
+  pub within : AllByRecursion (λ x. (low ≤ x) × (x < end)) codes
   pub coded : end ≤ 512
 
 pub spanned_none : Spanned 512 0 []
@@ -43,6 +43,6 @@ spanned_none = record { within = tt; coded = omega arith }
 -- one code more, with bounds that may be wider
 pub spanned_more : (low end low' end' : ℕ) (codes : List ℕ) (i : ℕ) → i < length codes → low' ≤ low → low' ≤ get_or codes i 0 → end ≤ end' → get_or codes i 0 < end' → end' ≤ 512 → Spanned low end (take i codes) → Spanned low' end' (take (i + 1) codes)
 spanned_more low end low' end' codes i h a b c d top s = record {
-  within = subst (All (λ x. (low' ≤ x) × (x < end'))) (sym (take_more codes i 0 h)) (All-push (λ x. (low' ≤ x) × (x < end')) (take i codes) (get_or codes i 0) (All-weaker (λ x. (low ≤ x) × (x < end)) (λ x. (low' ≤ x) × (x < end')) (λ x w. (omega (arith, w.0), omega (arith, w.1))) (take i codes) s.within) (b, d));
+  within = subst (AllByRecursion (λ x. (low' ≤ x) × (x < end'))) (sym (take_more codes i 0 h)) (All-push (λ x. (low' ≤ x) × (x < end')) (take i codes) (get_or codes i 0) (All-weaker (λ x. (low ≤ x) × (x < end)) (λ x. (low' ≤ x) × (x < end')) (λ x w. (omega (arith, w.0), omega (arith, w.1))) (take i codes) s.within) (b, d));
   coded = top;
 }

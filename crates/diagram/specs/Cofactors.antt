@@ -1,13 +1,13 @@
 -- A set by its sides at a code that is at most its lowest.
 use Rattle.std.specs.Prelude.{◌≡◌, ℕ, ◌<◌, ◌≤◌, ◌⊎◌, List, ◌∷◌}
-use Rattle.std.specs.List.{AllByRecursion as All}
+use Rattle.std.specs.List.{AllByRecursion}
 use Rattle.sets.specs.Sides.{Over, joined}
 use Rattle.table.specs.declared.table.Table.{Table}
 use Rattle.table.specs.Tables.{clauses}
 
 -- every code of the set is k or above
 abbrev pub From : ℕ → List (List ℕ) → Type 0
-From k s = All (All (λ y. k ≤ y)) s
+From k s = AllByRecursion (AllByRecursion (λ y. k ≤ y)) s
 
 -- the set's first clause begins with k
 abbrev pub Leads : ℕ → List (List ℕ) → Type 0

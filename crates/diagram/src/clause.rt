@@ -1,6 +1,6 @@
 // A single clause.
 ghost use Rattle.std.specs.Prelude.{◌≡◌, ℕ, ◌<◌, ◌≤◌, false, [], ◌∷◌, slice_index_or};
-ghost use Rattle.std.specs.List.{AllByRecursion as All};
+ghost use Rattle.std.specs.List.{AllByRecursion};
 ghost use Rattle.qbf.specs.Lists.{mem};
 ghost use Rattle.sets.specs.Ordered.{clause_of};
 ghost use Rattle.table.specs.Tables.{Makes};
@@ -17,9 +17,9 @@ struct Marks {
 
 // Marks the codes of a clause, literal by literal in the order given.
 fn mark(codes: &[u16]) -> Marks
-    requires { All (λ x. x < 512) codes.now }
+    requires { AllByRecursion (λ x. x < 512) codes.now }
     ensures marked { (k : ℕ) → k < 512 → slice_index_or result.at k false ≡ mem k codes.now }
-    ensures within { All (λ x. (result.low ≤ x) × (x < result.end)) codes.now }
+    ensures within { AllByRecursion (λ x. (result.low ≤ x) × (x < result.end)) codes.now }
     ensures coded { result.end ≤ 512 }
 {
     let mut at = [false; 512];
@@ -40,7 +40,7 @@ fn mark(codes: &[u16]) -> Marks
 // The set of the one clause with these codes. It is built from the highest code down to the lowest, so that each node made
 // is one of the set's.
 pub fn single(table: &mut Table, codes: &[u16]) -> Result<u16, Full>
-    requires { All (λ x. x < 512) codes.now }
+    requires { AllByRecursion (λ x. x < 512) codes.now }
     ensures { Makes table.old (clause_of codes.now ∷ []) table.new result }
 {
     let marks = mark(codes);

@@ -1,7 +1,7 @@
 -- A text of the format is read.
 use Rattle.std.proofs.Common.{◌≡◌, ℕ, ◌+◌, ◌-◌, ◌<◌, ◌≤◌, Bool, true, false, cond, ◌&&◌, eqb, ltb, List, [], ◌∷◌, ◌++◌, map, length, Some, None, Ok, Err, decimal, sym, refl, ap, ◌∙◌, subst, append_assoc, append-nil, arith}
 use Rattle.std.proofs.lemmas.Bool.{false≢true, cond-true, cond-false, le-ltb, eq-eqb, and_from}
-use Rattle.std.specs.List.{AllByRecursion as All}
+use Rattle.std.specs.List.{AllByRecursion}
 use Rattle.qbf.specs.declared.Quantifier.{Quantifier}
 use Rattle.qbf.specs.Lists.{Distinct}
 use Rattle.words.specs.declared.literals.Literal.{Literal}
@@ -103,13 +103,13 @@ one_variable p q d w ws n ns ms small goes is most apart others =
     subst (λ (z : List Binding). Leads p d (w ∷ ws) Line (with_prefix z d)) (joins (map (bind q) ns))
     (on step (others (subst (λ (z : List Binding). Distinct (variables_of z)) (sym (joins (map (bind q) ns ++ ms))) apart)))
 
-next_leads : {v : ℕ} {ws : List Token} {ns : List ℕ} → VariableWords v ws ns → (q : Quantifier) (d : Draft) (more_bindings : List Binding) → v ≤ 9999 → d.variables ≡ v → All (λ u. u.first ≡ false) ws → Distinct (variables_of (d.prefix ++ (map (bind q) ns ++ more_bindings))) → Leads (NextVariable q) d ws Line (with_prefix (d.prefix ++ map (bind q) ns) d)
+next_leads : {v : ℕ} {ws : List Token} {ns : List ℕ} → VariableWords v ws ns → (q : Quantifier) (d : Draft) (more_bindings : List Binding) → v ≤ 9999 → d.variables ≡ v → AllByRecursion (λ u. u.first ≡ false) ws → Distinct (variables_of (d.prefix ++ (map (bind q) ns ++ more_bindings))) → Leads (NextVariable q) d ws Line (with_prefix (d.prefix ++ map (bind q) ns) d)
 next_leads (variables_end {w = w} is) q d ms small same f apart =
     subst (λ (z : List Binding). Leads (NextVariable q) d (w ∷ []) Line (with_prefix z d)) (sym (append-nil d.prefix)) (on (goes_line f.0 is) here)
 next_leads (variable {w = w} {n = n} {ws = ws} {ns = ns} is pos most rest) q d ms small same f apart =
     one_variable (NextVariable q) q d w ws n ns ms (omega arith) (λ r new. goes_next f.0 r pos new) is (omega arith) apart (next_leads rest q (with_binding q n d) ms small same f.1)
 
-first_leads : {v : ℕ} {ws : List Token} {n : ℕ} {ns : List ℕ} → VariableWords v ws (n ∷ ns) → (q : Quantifier) (d : Draft) (more_bindings : List Binding) → v ≤ 9999 → d.variables ≡ v → All (λ u. u.first ≡ false) ws → Distinct (variables_of (d.prefix ++ (map (bind q) (n ∷ ns) ++ more_bindings))) → Leads (FirstVariable q) d ws Line (with_prefix (d.prefix ++ map (bind q) (n ∷ ns)) d)
+first_leads : {v : ℕ} {ws : List Token} {n : ℕ} {ns : List ℕ} → VariableWords v ws (n ∷ ns) → (q : Quantifier) (d : Draft) (more_bindings : List Binding) → v ≤ 9999 → d.variables ≡ v → AllByRecursion (λ u. u.first ≡ false) ws → Distinct (variables_of (d.prefix ++ (map (bind q) (n ∷ ns) ++ more_bindings))) → Leads (FirstVariable q) d ws Line (with_prefix (d.prefix ++ map (bind q) (n ∷ ns)) d)
 first_leads (variable {w = w} {n = n} {ws = ws} {ns = ns} is pos most rest) q d ms small same f apart =
     one_variable (FirstVariable q) q d w ws n ns ms (omega arith) (λ r new. goes_first f.0 r pos new) is (omega arith) apart (next_leads rest q (with_binding q n d) ms small same f.1)
 

@@ -2,7 +2,7 @@
 use Rattle.std.proofs.Common.{◌≡◌, ℕ, Bool, true, false, cond, ◌||◌, ◌⊎◌, List, [], ◌∷◌, ◌++◌, map, sym, refl, ap, ◌∙◌, subst, inl, inr, ⊎_elim, append_assoc, append-nil}
 use Rattle.std.proofs.ByRecursion.{All-push}
 use Rattle.std.proofs.lemmas.Bool.{both_ways, false≢true, cond-true, cond-false, or_cases, or_parts}
-use Rattle.std.specs.List.{AllByRecursion as All}
+use Rattle.std.specs.List.{AllByRecursion}
 use Rattle.qbf.specs.Lists.{In}
 use Rattle.clause.specs.Once.{once, both_signs, same_set}
 use Rattle.clause.proofs.Sets.{once_out, signs, same_itself, same_turned}
@@ -59,7 +59,7 @@ one_sign_once c b = on (both_signs (once c)) refl
     on false t = t
 
 record Sound (stored : List (List ℕ)) : Type 0 where
-  one_sign : All (λ c. both_signs c ≡ false) stored
+  one_sign : AllByRecursion (λ c. both_signs c ≡ false) stored
   unlike : Unlike stored
 
 sound : (cs stored : List (List ℕ)) → Sound stored → Sound (store_all stored cs)

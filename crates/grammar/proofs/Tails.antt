@@ -1,7 +1,7 @@
 -- Words that stand right up to a good end are what the grammar says.
 use Rattle.std.proofs.Common.{◌≡◌, ℕ, ◌+◌, ◌<◌, ◌≤◌, Bool, true, false, cond, ◌⊎◌, List, [], ◌∷◌, ◌++◌, map, length, Some, None, Ok, Err, decimal, sym, refl, ap, ◌∙◌, subst, inl, inr, ⊎_elim, append_assoc, append-nil, arith}
 use Rattle.std.proofs.lemmas.Bool.{both_ways, false≢true}
-use Rattle.std.specs.List.{AllByRecursion as All}
+use Rattle.std.specs.List.{AllByRecursion}
 use Rattle.qbf.specs.declared.Quantifier.{Quantifier}
 use Rattle.words.specs.declared.literals.Literal.{Literal}
 use Rattle.words.specs.Numbers.{read_number, read_literal, written}
@@ -68,7 +68,7 @@ pub record VariableRest (q : Quantifier) (d : Draft) (ws : List Token) (e : Draf
   pub cs : List (List ℕ)
   pub whole : ws ≡ us ++ (lines ++ body)
   pub variables : VariableWords d.variables us ns
-  pub same_line : All (λ u. u.first ≡ false) us
+  pub same_line : AllByRecursion (λ u. u.first ≡ false) us
   pub prefix : PrefixLines d.variables lines bs
   pub fresh : OnNewLine body
   pub clauses : Clauses d.variables (d.prefix ++ (map (bind q) ns ++ bs)) body cs

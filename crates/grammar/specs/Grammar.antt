@@ -1,6 +1,6 @@
 -- The format: which texts there are, and which formula each of them is.
 use Rattle.std.specs.Prelude.{◌≡◌, ℕ, ◌-◌, ◌<◌, ◌≤◌, Bool, true, false, cond, List, [], ◌∷◌, ◌++◌, map, length, Some, None, decimal, Option, slice_index}
-use Rattle.std.specs.List.{AllByRecursion as All}
+use Rattle.std.specs.List.{AllByRecursion}
 use Rattle.qbf.specs.declared.Quantifier.{Quantifier}
 use Rattle.qbf.specs.declared.Quantifier.TheVariants.{Existential, Universal}
 use Rattle.qbf.specs.Literals.{positive, negative}
@@ -30,7 +30,7 @@ letter Existential = 101 ∷ []
 -- the words begin a line and stand on it alone
 abbrev pub OnOneLine : List Token → Type 0
 OnOneLine [] = ⊥
-OnOneLine (w ∷ ws) = (w.first ≡ true) × All (λ u. u.first ≡ false) ws
+OnOneLine (w ∷ ws) = (w.first ≡ true) × AllByRecursion (λ u. u.first ≡ false) ws
 
 -- the words begin on a new line
 abbrev pub OnNewLine : List Token → Type 0

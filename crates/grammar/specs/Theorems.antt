@@ -1,6 +1,6 @@
 -- What is proved of the format.
 use Rattle.std.specs.Prelude.{◌≡◌, ℕ, true, false, ◌⊎◌, List, [], ◌∷◌, ◌++◌, map, Ok, Err}
-use Rattle.std.specs.List.{AllByRecursion as All}
+use Rattle.std.specs.List.{AllByRecursion}
 use Rattle.qbf.specs.Lists.{In}
 use Rattle.clause.specs.Once.{once, both_signs, same_set}
 use Rattle.words.specs.Numbers.{Iff}
@@ -41,13 +41,13 @@ pub data LeavesOut {A : Type 0} : List A → List A → Type 0 where
 -- no clause of the list has the same literals as a later one
 abbrev pub Unlike : List (List ℕ) → Type 0
 Unlike [] = Unit {0}
-Unlike (c ∷ cs) = All (λ d. same_set c d ≡ false) cs × Unlike cs
+Unlike (c ∷ cs) = AllByRecursion (λ d. same_set c d ≡ false) cs × Unlike cs
 
 -- the stored clauses of a text: in the order written, each literal once, none with both signs of a variable, no two with
 -- the same literals, and every other clause as a set among them
 pub record Stores (written stored : List (List ℕ)) : Type 0 where
   pub in_order : LeavesOut stored (map once written)
-  pub one_sign : All (λ c. both_signs c ≡ false) stored
+  pub one_sign : AllByRecursion (λ c. both_signs c ≡ false) stored
   pub unlike : Unlike stored
   pub complete : (c : List ℕ) → In c written → both_signs c ≡ false → (d : List ℕ) × In d stored × (same_set (once c) d ≡ true)
 

@@ -1,6 +1,6 @@
 -- What a history leads to, one dealing after the other.
 use Rattle.std.proofs.Common.{◌≡◌, ℕ, ◌<◌, ◌≤◌, Bool, true, false, List, [], ◌∷◌, Some, None, Ok, Err, Option, Result, sym, refl, ap, ◌∙◌, subst, arith}
-use Rattle.std.specs.List.{AllByRecursion as All}
+use Rattle.std.specs.List.{AllByRecursion}
 use Rattle.std.proofs.lemmas.Bool.Decides.{nat_tests}
 use Rattle.qbf.specs.declared.Candidate.{Candidate}
 use Rattle.qbf.specs.Lists.{Distinct}
@@ -32,7 +32,7 @@ use Rattle.histories.proofs.Ledgers.{under_same, under_other, decides_loaded, de
 pub record Agrees {M : Type 0} (held : M → Pairs) (l : Ledger) (s : Standing M) : Type 0 where
   pub prefix : s.prefix ≡ l.prefix
   pub formula : s.formula ≡ l.formula
-  pub weighed : All (Among l.weighed) s.table
+  pub weighed : AllByRecursion (Among l.weighed) s.table
   pub apart : Distinct s.table
   pub right : Right (quantifiers s.prefix) s.table (held s.memo)
 
@@ -51,7 +51,7 @@ module _ {M : Type 0} (held : M → Pairs) where
   fresh_agrees {s} f = record {
     prefix = f.prefix;
     formula = f.formula;
-    weighed = subst (λ (t : Numbering). All (Among []) t) (sym f.table) tt;
+    weighed = subst (λ (t : Numbering). AllByRecursion (Among []) t) (sym f.table) tt;
     apart = subst (λ (t : Numbering). Distinct t) (sym f.table) tt;
     right = empty_right s.prefix s.table (held s.memo) f.memo;
   }
@@ -109,7 +109,7 @@ module _ {M : Type 0} (held : M → Pairs) (notes : M → ℕ → Bool → M →
       let l : Ledger = ledger pick history in
       let begun = begins_agrees held l r.prefix sound.agrees begins in
       let kept = (load_keeps l text r e b.table after begun.weighed).0 makes in
-      let weighed = subst (λ (y : Result Reading ReadFault). All (Among (loads l y (loaded r.variables r.declared)).weighed) after) e kept.weighed in
+      let weighed = subst (λ (y : Result Reading ReadFault). AllByRecursion (Among (loads l y (loaded r.variables r.declared)).weighed) after) e kept.weighed in
       record {
         sound = record {
           agrees = loads_in history text (loaded r.variables r.declared) (Ok r) _ e (record {
@@ -127,7 +127,7 @@ module _ {M : Type 0} (held : M → Pairs) (notes : M → ℕ → Bool → M →
       let l : Ledger = ledger pick history in
       let begun = begins_agrees held l r.prefix sound.agrees begins in
       let kept = (load_keeps l text r e b.table after begun.weighed).1 stops in
-      let weighed = subst (λ (y : Result Reading ReadFault). All (Among (loads l y load_full).weighed) after) e kept.weighed in
+      let weighed = subst (λ (y : Result Reading ReadFault). AllByRecursion (Among (loads l y load_full).weighed) after) e kept.weighed in
       record {
         sound = record {
           agrees = loads_in history text load_full (Ok r) _ e (record {

@@ -1,6 +1,6 @@
 -- What holds after every history.
 use Rattle.std.specs.Prelude.{◌≡◌, ℕ, Bool, List}
-use Rattle.std.specs.List.{AllByRecursion as All}
+use Rattle.std.specs.List.{AllByRecursion}
 use Rattle.qbf.specs.declared.Candidate.{Candidate}
 use Rattle.qbf.specs.Lists.{Distinct}
 use Rattle.qbf.specs.Memo.{Pairs}
@@ -17,7 +17,7 @@ use Rattle.histories.specs.Histories.{Led, Honest, AllHonest}
 pub record ByLedger {M : Type 0} (held : M → Pairs) (pick : List Candidate → ℕ) (history : List Dealing) (s : Standing M) : Type 0 where
   pub prefix : s.prefix ≡ (ledger pick history).prefix
   pub formula : s.formula ≡ (ledger pick history).formula
-  pub weighed : All (Among (ledger pick history).weighed) s.table
+  pub weighed : AllByRecursion (Among (ledger pick history).weighed) s.table
   pub apart : Distinct s.table
   pub right : Right (quantifiers s.prefix) s.table (held s.memo)
 

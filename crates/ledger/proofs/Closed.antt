@@ -1,6 +1,6 @@
 -- The loaded formula stands under the loaded prefix.
 use Rattle.std.proofs.Common.{◌≡◌, ℕ, ◌*◌, ◌<◌, Bool, true, false, cond, leb, List, [], ◌∷◌, length, Some, None, Ok, Err, Option, Result, sym, refl, subst, arith}
-use Rattle.std.specs.List.{AllByRecursion as All}
+use Rattle.std.specs.List.{AllByRecursion}
 use Rattle.std.proofs.lemmas.Bool.Decides.{nat_tests}
 use Rattle.std.proofs.lemmas.Bool.{cond_both}
 use Rattle.std.proofs.ByRecursion.{All-map, All-weaker}
@@ -34,30 +34,30 @@ Small prefix k = k < 2 * length prefix
 coded_small : (prefix : List Binding) (l : Literal) (k : ℕ) → Coded prefix l k → Small prefix k
 coded_small prefix l k c = let h = found_within 0 l.variable prefix c.0 c.1 in let e = c.2 in grind (arith, nat_tests)
 
-clause_small : {v : ℕ} {prefix : List Binding} {ws : List Token} {c : List ℕ} → Clause v prefix ws c → All (Small prefix) c
+clause_small : {v : ℕ} {prefix : List Binding} {ws : List Token} {c : List ℕ} → Clause v prefix ws c → AllByRecursion (Small prefix) c
 clause_small (end e) = tt
 clause_small {prefix = prefix} (literal l {k} e a b c rest) = (coded_small prefix l k c, clause_small rest)
 
-clauses_small : {v : ℕ} {prefix : List Binding} {ws : List Token} {cs : List (List ℕ)} → Clauses v prefix ws cs → All (All (Small prefix)) cs
+clauses_small : {v : ℕ} {prefix : List Binding} {ws : List Token} {cs : List (List ℕ)} → Clauses v prefix ws cs → AllByRecursion (AllByRecursion (Small prefix)) cs
 clauses_small none = tt
 clauses_small (more c rest) = (clause_small c, clauses_small rest)
 
-all_left : {A : Type 0} (P : A → Type 0) {xs ys : List A} → LeavesOut xs ys → All P ys → All P xs
+all_left : {A : Type 0} (P : A → Type 0) {xs ys : List A} → LeavesOut xs ys → AllByRecursion P ys → AllByRecursion P xs
 all_left P done h = tt
 all_left P (keeps l) h = (h.0, all_left P l h.1)
 all_left P (skips l) h = all_left P l h.1
 
-reading_small : (text : List ℕ) (r : Reading) → read_all text ≡ Ok r → All (All (Small r.prefix)) r.clauses
+reading_small : (text : List ℕ) (r : Reading) → read_all text ≡ Ok r → AllByRecursion (AllByRecursion (Small r.prefix)) r.clauses
 reading_small text r e =
     let f = ((reading_stands_lem text).accepted r).0 e in
-    let P : List ℕ → Type 0 = All (Small r.prefix) in
+    let P : List ℕ → Type 0 = AllByRecursion (Small r.prefix) in
     let written = All-weaker P (λ c. P (once c)) (λ c. once_all (Small r.prefix) c) f.written_clauses (clauses_small f.clauses_are) in
     rw f.stored (all_left P (stored_stands_lem f.written_clauses).in_order (All-map P once f.written_clauses written))
 
 -- the formula of a text
 text_stands : (text : List ℕ) (r : Reading) → read_all text ≡ Ok r → StandsUnder (Some r.prefix) (formula_of r)
 text_stands text r e =
-    let P : List ℕ → Type 0 = All (Small r.prefix) in
+    let P : List ℕ → Type 0 = AllByRecursion (Small r.prefix) in
     let small = all_formed P [] r.clauses tt (All-weaker P (λ c. P (clause_of c)) (λ c. all_clause (Small r.prefix) c) r.clauses (reading_small text r e)) in
     record {
       prefix = r.prefix;

@@ -1,6 +1,6 @@
 -- The promises are kept.
 use Rattle.std.proofs.Common.{◌≡◌, ℕ, ◌≤◌, Bool, true, leb, List, [], ◌∷◌, ◌++◌, Option, refl, ap, ◌∙◌, inl, inr, arith}
-use Rattle.std.specs.List.{AllByRecursion as All}
+use Rattle.std.specs.List.{AllByRecursion}
 use Rattle.std.proofs.lemmas.Bool.Decides.{nat_tests}
 use Rattle.std.proofs.ByRecursion.{All-append, All-weaker}
 use Rattle.qbf.specs.declared.Quantifier.{Quantifier}
@@ -21,18 +21,18 @@ use Rattle.ledger.specs.Promises.{walk_of, CarriedOut, FewSplits, DecisionPromis
 use Rattle.ledger.specs.Keeping.{MakingWeighed, MakingCrowded, LoadKeeps, DecisionKeeps}
 
 -- a table that has gained nodes of the sets
-gained_weighed : {t u : Numbering} (w sets : List (List (List ℕ))) → All (Among w) t → Gains t sets u → All (Among (w ++ sets)) u
+gained_weighed : {t u : Numbering} (w sets : List (List (List ℕ))) → AllByRecursion (Among w) t → Gains t sets u → AllByRecursion (Among (w ++ sets)) u
 gained_weighed {t} w sets h g =
     let old = All-weaker (Among w) (Among (w ++ sets)) (among_more w (w ++ sets) (λ s. in_append_left s w sets)) t h in
     let new = All-weaker (Among sets) (Among (w ++ sets)) (among_more sets (w ++ sets) (λ s. in_append_right s w sets)) g.added g.nodes in
     rw g.joined (All-append (Among (w ++ sets)) t g.added old new)
 
-absent_apart : {A : Type 0} (x : A) (xs : List A) → (In x xs → ⊥) → All (λ y. x ≡ y → ⊥) xs
+absent_apart : {A : Type 0} (x : A) (xs : List A) → (In x xs → ⊥) → AllByRecursion (λ y. x ≡ y → ⊥) xs
 absent_apart x [] h = tt
 absent_apart x (y ∷ xs) h = (λ e. h (inl e), absent_apart x xs (λ i. h (inr i)))
 
 -- a full table of weighed nodes, and one node more
-overfull_crowded : {t : Numbering} (w sets : List (List (List ℕ))) → Subset sets w → All (Among w) t → Overfull sets t → Crowded capacity w
+overfull_crowded : {t : Numbering} (w sets : List (List (List ℕ))) → Subset sets w → AllByRecursion (Among w) t → Overfull sets t → Crowded capacity w
 overfull_crowded {t} w sets p h o =
     let x : List (List ℕ) = o.lacking.0 in
     let e = o.full in
@@ -67,7 +67,7 @@ weighed_with pick l f allowance c =
 
 module _ {M : Type 0} (held : M → Pairs) (notes : M → ℕ → Bool → M → Type 0) (law : (m : M) (n : ℕ) (b : Bool) (a : M) → notes m n b a → Kept (held m) n b (held a)) where
   promised_at : (pick : List Candidate → ℕ) (l : Ledger) (f : LoadedFormula) (weighed : List (List (List ℕ))) (allowance splits : ℕ) (before after : Numbering) →
-      CarriedOut l allowance f → Subset (walk_of pick l f).made weighed → All (Among weighed) after → (e : Ending) →
+      CarriedOut l allowance f → Subset (walk_of pick l f).made weighed → AllByRecursion (Among weighed) after → (e : Ending) →
       Judged pick (quantifiers l.prefix) allowance 0 0 before f.clauses e splits after →
       ((b : Bool) → e ≡ verdict b → NeverHolds held → splits ≡ (walk_of pick l f).splits) →
       DecisionPromised pick (NeverHolds held) l weighed allowance (answer e splits)
@@ -87,7 +87,7 @@ module _ {M : Type 0} (held : M → Pairs) (notes : M → ℕ → Bool → M →
       let prefix : List Quantifier = quantifiers l.prefix in
       let made : List (List (List ℕ)) = (walk_of pick l f).made in
       let j = judged held notes law pick picks prefix allowance d right in
-      let now : All (Among (l.weighed ++ made)) after = gained_weighed l.weighed made w j.0.gains in
+      let now : AllByRecursion (Among (l.weighed ++ made)) after = gained_weighed l.weighed made w j.0.gains in
       let same = weighed_with pick l f allowance c in
       record {
         promised = rw same (promised_at pick l f (l.weighed ++ made) allowance splits before after c (λ x. in_append_right x l.weighed made) now e j.0 (λ b eb empty. let z = unaided held notes law pick picks prefix allowance empty d b eb in omega (arith, z)));

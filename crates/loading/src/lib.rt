@@ -5,7 +5,7 @@
 #![tactic(auto)]
 
 ghost use Rattle.std.specs.Prelude.{◌<◌, []};
-ghost use Rattle.std.specs.List.{AllByRecursion as All};
+ghost use Rattle.std.specs.List.{AllByRecursion};
 ghost use Rattle.formula.specs.Views.{clauses_of};
 ghost use Rattle.sets.specs.Formed.{formed, forming};
 ghost use Rattle.table.specs.Tables.{MakesAll};
@@ -16,7 +16,7 @@ use table::{Full, Table};
 
 // The set of the clauses; of none, the empty set.
 pub fn store_clauses(table: &mut Table, clauses: &ClauseList) -> Result<u16, Full>
-    requires { All (All (λ x. x < 512)) (clauses_of clauses.now) }
+    requires { AllByRecursion (AllByRecursion (λ x. x < 512)) (clauses_of clauses.now) }
     ensures { MakesAll table.old (forming [] (clauses_of clauses.now)) (formed [] (clauses_of clauses.now)) table.new result }
 {
     let mut set = 0;

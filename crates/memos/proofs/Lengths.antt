@@ -1,12 +1,12 @@
 -- Lists without repetition that have the same elements are as long.
 use Rattle.std.proofs.Common.{◌≡◌, ℕ, ◌<◌, ◌≤◌, true, false, eqb, List, [], ◌∷◌, length, sym, refl, ◌∙◌, ⊎_elim, arith}
-use Rattle.std.specs.List.{AllByRecursion as All}
+use Rattle.std.specs.List.{AllByRecursion}
 use Rattle.std.proofs.lemmas.Bool.{cases_Bool, eqb-true, eq-eqb, or_cases, or_left, or_right, both_ways}
 use Rattle.qbf.specs.Lists.{Distinct, mem, without}
 use Rattle.qbf.specs.Memo.{Pairs}
 use Rattle.memos.specs.Notes.{Holding}
 
-mem_all : (P : ℕ → Type 0) (xs : List ℕ) (k : ℕ) → All P xs → mem k xs ≡ true → P k
+mem_all : (P : ℕ → Type 0) (xs : List ℕ) (k : ℕ) → AllByRecursion P xs → mem k xs ≡ true → P k
 mem_all P [] k all h = absurd (both_ways false refl h)
 mem_all P (x ∷ xs) k all h =
     ⊎_elim

@@ -1,7 +1,7 @@
 -- Clauses and clause sets. A clause is the list of its literals' codes, in rising order; a set of clauses is a list
 -- in one order, so that equal sets are equal lists.
 use Rattle.std.specs.Prelude.{◌≡◌, ℕ, ◌<◌, Bool, true, false, cond, not, ◌&&◌, ◌||◌, List, [], ◌∷◌, map, filter, ◌==◌, nat_lt}
-use Rattle.std.specs.List.{AllByRecursion as All}
+use Rattle.std.specs.List.{AllByRecursion}
 use Rattle.qbf.specs.Literals.{complement}
 use Rattle.qbf.specs.Lists.{mem, without}
 
@@ -14,16 +14,16 @@ below (x ∷ c) (y ∷ d) = nat_lt x y || (x == y && below c d)
 -- a clause with its codes in rising order
 abbrev pub Rising : List ℕ → Type 0
 Rising [] = Unit {0}
-Rising (x ∷ c) = All (λ y. x < y) c × Rising c
+Rising (x ∷ c) = AllByRecursion (λ y. x < y) c × Rising c
 
 -- clauses in their order, none twice
 abbrev pub Sorted : List (List ℕ) → Type 0
 Sorted [] = Unit {0}
-Sorted (c ∷ s) = All (λ d. below c d ≡ true) s × Sorted s
+Sorted (c ∷ s) = AllByRecursion (λ d. below c d ≡ true) s × Sorted s
 
 -- a clause set in the one form that it has
 abbrev pub Canonical : List (List ℕ) → Type 0
-Canonical s = All Rising s × Sorted s
+Canonical s = AllByRecursion Rising s × Sorted s
 
 -- the clauses of two sets, each once and in order
 abbrev pub weave : List ℕ → (List (List ℕ) → List (List ℕ)) → List (List ℕ) → List (List ℕ)

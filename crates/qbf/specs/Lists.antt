@@ -1,6 +1,6 @@
 -- Membership and distinctness in lists.
 use Rattle.std.specs.Prelude.{◌≡◌, ℕ, Bool, false, cond, ◌||◌, ◌⊎◌, List, [], ◌∷◌, ◌==◌, ◌≢◌}
-use Rattle.std.specs.List.{AllByRecursion as All}
+use Rattle.std.specs.List.{AllByRecursion}
 
 -- x stands in the list
 abbrev pub In : {A : Type 0} → A → List A → Type 0
@@ -10,7 +10,7 @@ In x (y ∷ ys) = (x ≡ y) ⊎ In x ys
 -- no element stands twice
 abbrev pub Distinct : {A : Type 0} → List A → Type 0
 Distinct [] = Unit {0}
-Distinct (x ∷ xs) = All (λ y. x ≢ y) xs × Distinct xs
+Distinct (x ∷ xs) = AllByRecursion (λ y. x ≢ y) xs × Distinct xs
 
 -- whether a number stands in the list
 abbrev pub mem : ℕ → List ℕ → Bool

@@ -1,6 +1,6 @@
 -- The nodes of a clause set, and when sets have more than a number of nodes together.
 use Rattle.std.specs.Prelude.{◌≡◌, ℕ, ◌<◌, Bool, false, cond, not, List, [], ◌∷◌, length, filter, ◌==◌}
-use Rattle.std.specs.List.{AllByRecursion as All}
+use Rattle.std.specs.List.{AllByRecursion}
 use Rattle.qbf.specs.Lists.{In, Distinct}
 
 -- the clause's lowest code is k (its codes rise)
@@ -30,4 +30,4 @@ pub record Crowded (n : ℕ) (sets : List (List (List ℕ))) : Type 0 where
   pub list : List (List (List ℕ))
   pub long : n < length list
   pub apart : Distinct list
-  pub nodes : All (λ x. (s : List (List ℕ)) × In s sets × Node x s) list
+  pub nodes : AllByRecursion (λ x. (s : List (List ℕ)) × In s sets × Node x s) list

@@ -1,6 +1,6 @@
 -- What the numbers of a node table stand for, as the list of the sets of the numbers 2, 3, .., and how it grows when sets are made.
 use Rattle.std.specs.Prelude.{◌≡◌, ℕ, zero, suc, ◌≤◌, List, [], ◌∷◌, ◌++◌, length, Some, None, Option}
-use Rattle.std.specs.List.{AllByRecursion as All}
+use Rattle.std.specs.List.{AllByRecursion}
 use Rattle.qbf.specs.Lists.{In, Distinct}
 use Rattle.qbf.specs.Nodes.{Node}
 
@@ -33,7 +33,7 @@ Among sets x = (s : List (List ℕ)) × In s sets × Node x s
 pub record Gains (before : Numbering) (sets : List (List (List ℕ))) (after : Numbering) : Type 0 where
   pub added : Numbering
   pub joined : after ≡ before ++ added
-  pub nodes : All (Among sets) added
+  pub nodes : AllByRecursion (Among sets) added
 
 -- The sets were made: the table has gained only nodes of theirs, and now has them all. No two numbers stand for one set.
 pub record Makes (before : Numbering) (sets : List (List (List ℕ))) (after : Numbering) : Type 0 where

@@ -1,6 +1,6 @@
 -- Reducing a set: the first line that fits is carried out, and the lines are tried again from the top.
 use Rattle.std.specs.Prelude.{ℕ, zero, suc, ◌+◌, ◌*◌, ◌/◌, ◌<◌, Bool, true, false, cond, not, ◌&&◌, ◌||◌, List, [], ◌∷◌, ◌++◌, length, Some, None, Option, ◌==◌}
-use Rattle.std.specs.List.{AllByRecursion as All}
+use Rattle.std.specs.List.{AllByRecursion}
 use Rattle.qbf.specs.declared.Quantifier.{Quantifier}
 use Rattle.qbf.specs.declared.Quantifier.TheVariants.{Existential, Universal}
 use Rattle.qbf.specs.Literals.{complement}
@@ -23,7 +23,7 @@ binds q (r ∷ prefix) (suc x) = binds q prefix x
 
 -- every literal of the set is of a variable of the prefix
 abbrev pub Within : List Quantifier → List (List ℕ) → Type 0
-Within prefix s = All (All (λ l. l < 2 * length prefix)) s
+Within prefix s = AllByRecursion (AllByRecursion (λ l. l < 2 * length prefix)) s
 
 -- whether the clause is empty
 abbrev pub is_empty : List ℕ → Bool

@@ -1,6 +1,6 @@
 -- What holds of a draft lasts from word to word.
 use Rattle.std.proofs.Common.{◌≡◌, ℕ, ◌+◌, ◌<◌, ◌≤◌, Bool, true, false, not, ◌&&◌, eqb, ltb, List, [], ◌∷◌, ◌++◌, length, is_some, Some, None, Ok, Err, Option, Result, sym, refl, ap, subst, ⊎_elim, arith}
-use Rattle.std.specs.List.{AllByRecursion as All}
+use Rattle.std.specs.List.{AllByRecursion}
 use Rattle.std.specs.Str.{bytes_eq}
 use Rattle.std.proofs.ByRecursion.{All-push}
 use Rattle.std.proofs.lemmas.List.{length_push, map_push}
@@ -60,7 +60,7 @@ binding_last q n d f r new =
       variables = f.variables;
       declared = f.declared;
       few = f.few;
-      bound = subst (All InRange) (sym e) (All-push InRange vs n f.bound r);
+      bound = subst (AllByRecursion InRange) (sym e) (All-push InRange vs n f.bound r);
       once = distinct_more d.prefix (bind q n) f.once (absent n d.prefix new);
       begun = f.begun;
       stored = f.stored;
@@ -95,11 +95,11 @@ total_push (d ∷ cs) c = let ih = total_push cs c in omega arith
 
 -- a clause more, stored or not
 record Grown (cs : List (List ℕ)) (c : List ℕ) (ds : List (List ℕ)) : Type 0 where
-  clean : All Clean ds
+  clean : AllByRecursion Clean ds
   few : length ds ≤ length cs + 1
   room : total ds ≤ total cs + length c
 
-store_grows : (cs : List (List ℕ)) (c : List ℕ) → All Clean cs → All (λ k. k < 512) c → Grown cs c (store cs c)
+store_grows : (cs : List (List ℕ)) (c : List ℕ) → AllByRecursion Clean cs → AllByRecursion (λ k. k < 512) c → Grown cs c (store cs c)
 store_grows cs c a s =
     let same : Grown cs c cs = record { clean = a; few = omega arith; room = omega arith } in
     cond_both (both_signs c) _ _ (Grown cs c) (λ _. same) (λ _.

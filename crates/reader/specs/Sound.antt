@@ -1,6 +1,6 @@
 -- What holds of a draft at each word, so that the arrays suffice.
 use Rattle.std.specs.Prelude.{ℕ, ◌+◌, ◌<◌, ◌≤◌, List, [], ◌∷◌, length}
-use Rattle.std.specs.List.{AllByRecursion as All}
+use Rattle.std.specs.List.{AllByRecursion}
 use Rattle.qbf.specs.Lists.{Distinct}
 use Rattle.formula.specs.Positions.{variables_of}
 use Rattle.grammar.specs.declared.place.Place.{Place}
@@ -17,7 +17,7 @@ kept d = total d.stored + length d.begun
 
 -- a clause as it is stored: codes below 512, none twice
 abbrev pub Clean : List ℕ → Type 0
-Clean c = All (λ k. k < 512) c × Distinct c
+Clean c = AllByRecursion (λ k. k < 512) c × Distinct c
 
 -- V and C are in range, at most the finished clauses are stored, the prefix binds variables from 1 to 256, none twice,
 -- and the codes are those of such variables
@@ -25,10 +25,10 @@ pub record Fine (d : Draft) : Type 0 where
   pub variables : d.variables ≤ 256
   pub declared : d.declared ≤ 2048
   pub few : length d.stored ≤ d.finished
-  pub bound : All (λ n. (0 < n) × (n ≤ 256)) (variables_of d.prefix)
+  pub bound : AllByRecursion (λ n. (0 < n) × (n ≤ 256)) (variables_of d.prefix)
   pub once : Distinct (variables_of d.prefix)
-  pub begun : All (λ k. k < 512) d.begun
-  pub stored : All Clean d.stored
+  pub begun : AllByRecursion (λ k. k < 512) d.begun
+  pub stored : AllByRecursion Clean d.stored
 
 -- and the clauses are counted
 abbrev pub Sound : Place → Draft → Type 0

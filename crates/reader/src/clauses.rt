@@ -1,6 +1,6 @@
 // The words of clauses.
 ghost use Rattle.std.specs.Prelude.{◌≡◌, ◌+◌, ◌<◌, ◌≤◌, false, not, ◌&&◌, length, nat_lt};
-ghost use Rattle.std.specs.List.{AllByRecursion as All};
+ghost use Rattle.std.specs.List.{AllByRecursion};
 ghost use Rattle.words.specs.Words.{token};
 ghost use Rattle.clause.specs.Codes.{codes_of};
 ghost use Rattle.formula.specs.Positions.{position};
@@ -28,7 +28,7 @@ fn code_at(negative: bool, place: usize) -> u16
 
 // Whether a stored clause has the same literals.
 fn is_stored(clauses: &ClauseList, clause: &Clause) -> bool
-    requires { All Clean (clauses_of clauses.now) }
+    requires { AllByRecursion Clean (clauses_of clauses.now) }
     ensures { result ≡ repeated (codes_of clause.now) (clauses_of clauses.now) }
 {
     for place in 0..clauses.len() {
@@ -41,7 +41,7 @@ fn is_stored(clauses: &ClauseList, clause: &Clause) -> bool
 
 // Stores a clause, unless it has both signs of a variable or is stored already.
 fn store(clauses: &mut ClauseList, clause: &Clause)
-    requires clean { All Clean (clauses_of clauses.old) }
+    requires clean { AllByRecursion Clean (clauses_of clauses.old) }
     requires room { total (clauses_of clauses.old) + length (codes_of clause.now) ≤ 30000 }
     requires few { length (clauses_of clauses.old) < 2048 }
     ensures { clauses_of clauses.new ≡ extended (clauses_of clauses.old) clause.now.both_signs (codes_of clause.now) }

@@ -1,6 +1,6 @@
 -- The list of the sets that the numbers of a table stand for.
 use Rattle.std.proofs.Common.{◌≡◌, ℕ, zero, suc, ◌+◌, ◌-◌, ◌<◌, ◌≤◌, List, ◌++◌, length, Some, sym, refl, ap, ◌∙◌, inl, inr, arith}
-use Rattle.std.specs.List.{AllByRecursion as All}
+use Rattle.std.specs.List.{AllByRecursion}
 use Rattle.std.proofs.lemmas.Bool.{cases_eq}
 use Rattle.qbf.specs.Lists.{In, Distinct}
 use Rattle.qbf.specs.Numbering.{nth}
@@ -19,7 +19,7 @@ unfolding sets_of
 length_sets t = length_from t 2 t.count
 
 -- what holds of the set of each number holds of all of them
-pub each_from : (t : Table) (P : List (List ℕ) → Type 0) (n k : ℕ) → ((m : ℕ) → n ≤ m → m < n + k → P (clauses t m)) → All P (sets_from t n k)
+pub each_from : (t : Table) (P : List (List ℕ) → Type 0) (n k : ℕ) → ((m : ℕ) → n ≤ m → m < n + k → P (clauses t m)) → AllByRecursion P (sets_from t n k)
 unfolding sets_from
 each_from t P n zero h = tt
 each_from t P n (suc k) h = (h n (omega arith) (omega arith), each_from t P (suc n) k (λ m a b. h m (omega arith) (omega arith)))

@@ -1,6 +1,6 @@
 -- What a setting leaves, in the terms of the list of sets.
 use Rattle.std.proofs.Common.{ℕ, ◌+◌, ◌-◌, ◌≤◌, List, [], ◌∷◌, ◌++◌, length, Ok, Err, Result, sym, ap, ◌∙◌, subst, arith}
-use Rattle.std.specs.List.{AllByRecursion as All}
+use Rattle.std.specs.List.{AllByRecursion}
 use Rattle.qbf.specs.declared.Quantifier.{Quantifier}
 use Rattle.qbf.specs.Lists.{In}
 use Rattle.qbf.specs.Nodes.{Node as NodeOf}
@@ -35,7 +35,7 @@ reached_two (reached_with two r) = reached_two r
 reached_two (reached_without two r) = reached_two r
 
 -- a table that has a set has its nodes
-whole : (u : Table) (sets : List (List (List ℕ))) → All (Held u) sets → (s x : List (List ℕ)) → In s sets → NodeOf x s → In x (sets_of u)
+whole : (u : Table) (sets : List (List (List ℕ))) → AllByRecursion (Held u) sets → (s x : List (List ℕ)) → In s sets → NodeOf x s → In x (sets_of u)
 whole u sets held s x i node =
     let h : Held u s = all_in (Held u) sets s held i in
     let r = (nodes_reached u h.0 h.1.held).each x (subst (NodeOf x) (sym h.1.means) node) in

@@ -1,6 +1,6 @@
 -- The blocks of a prefix.
 use Rattle.std.proofs.Common.{◌≡◌, ℕ, ◌<◌, true, false, List, [], ◌∷◌, map, length, sym, refl, ap, ◌∙◌, arith}
-use Rattle.std.specs.List.{flat_map, AllByRecursion as All}
+use Rattle.std.specs.List.{flat_map, AllByRecursion}
 use Rattle.std.proofs.lemmas.Bool.{false≢true, true≢false, cond_both}
 use Rattle.qbf.specs.declared.Quantifier.{Quantifier}
 use Rattle.qbf.specs.declared.Quantifier.TheVariants.{Existential, Universal}
@@ -34,7 +34,7 @@ whole b (k ∷ ks) =
     (λ _. refl)
 
 abbrev pub Filled : List Block → Type 0
-Filled ks = All (λ k. 0 < length k.variables) ks
+Filled ks = AllByRecursion (λ k. 0 < length k.variables) ks
 
 filled : (b : Binding) (ks : List Block) → Filled ks → Filled (in_front b ks)
 filled b [] h = (omega arith, tt)

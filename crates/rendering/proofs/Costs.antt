@@ -1,6 +1,6 @@
 -- A text has at least the bytes of its words, and one more for each: the space or line end behind it.
 use Rattle.std.proofs.Common.{◌≡◌, ℕ, ◌+◌, ◌-◌, ◌<◌, ◌≤◌, Bool, List, [], ◌∷◌, ◌++◌, length, get_or, sym, refl, ap, ◌∙◌, arith, length-append}
-use Rattle.std.specs.List.{AllByRecursion as All}
+use Rattle.std.specs.List.{AllByRecursion}
 use Rattle.words.specs.Words.{kind, Token, words_of}
 use Rattle.words.specs.Split.{Cut, Runs, Words}
 use Rattle.words.specs.Split.Runs.{done, line_end, space, word}
@@ -46,17 +46,17 @@ ended_last d (b ∷ bs) e =
     let n : length (b ∷ bs) - 1 ≡ length bs = omega arith in
     sym (at_last b bs) ∙ ap (λ (i : ℕ). get_or (b ∷ bs) i 0) (sym n) ∙ e
 
-last_ink : (b : ℕ) (w : List ℕ) → Inked b → All Inked w → last b w ≡ 10 → ⊥
+last_ink : (b : ℕ) (w : List ℕ) → Inked b → AllByRecursion Inked w → last b w ≡ 10 → ⊥
 last_ink b [] k ink e = let z : ◌≡◌ {A = ℕ} 0 1 = cc in omega arith
 last_ink b (c ∷ w) k ink e = last_ink c w ink.0 ink.1 e
 
 -- a word is not the text's end
-some_left : (d : ℕ) (w rest : List ℕ) → 0 < length w → All Inked w → last d (w ++ rest) ≡ 10 → 0 < length rest
+some_left : (d : ℕ) (w rest : List ℕ) → 0 < length w → AllByRecursion Inked w → last d (w ++ rest) ≡ 10 → 0 < length rest
 some_left d [] rest some ink e = absurd (omega arith)
 some_left d (b ∷ w) [] some ink e = absurd (last_ink b w ink.0 ink.1 (sym (last_append b w []) ∙ e))
 some_left d (b ∷ w) (c ∷ rest) some ink e = omega arith
 
-uncut : (w rest : List ℕ) → 0 < length w → All Inked w → Cut (w ++ rest) → ⊥
+uncut : (w rest : List ℕ) → 0 < length w → AllByRecursion Inked w → Cut (w ++ rest) → ⊥
 uncut [] rest some ink cut = absurd (omega arith)
 uncut (b ∷ w) rest some ink cut = cut ink.0
 

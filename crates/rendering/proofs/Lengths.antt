@@ -1,6 +1,6 @@
 -- What is written is no longer than the words that were read, with one byte behind each.
 use Rattle.std.proofs.Common.{◌≡◌, ℕ, ◌+◌, ◌<◌, ◌≤◌, true, List, [], ◌∷◌, ◌++◌, map, length, decimal, sym, refl, ap, ◌∙◌, arith, length-append}
-use Rattle.std.specs.List.{flat_map, AllByRecursion as All}
+use Rattle.std.specs.List.{flat_map, AllByRecursion}
 use Rattle.std.proofs.ByRecursion.{All-append, All-map}
 use Rattle.std.proofs.lemmas.Bool.{cond-true, cond_both}
 use Rattle.qbf.specs.declared.Quantifier.{Quantifier}
@@ -99,11 +99,11 @@ line_most q n (m ∷ ns) bs =
 abbrev pub Fits : ℕ → ℕ → Type 0
 Fits v n = (0 < n) × (n ≤ v)
 
-variables_cost : {v : ℕ} {ws : List Token} {ns : List ℕ} → Variables v ws ns → (cost ws ≡ total number_cost ns + 2) × All (Fits v) ns
+variables_cost : {v : ℕ} {ws : List Token} {ns : List ℕ} → Variables v ws ns → (cost ws ≡ total number_cost ns + 2) × AllByRecursion (Fits v) ns
 variables_cost (last_variable z) = (omega (arith, ap length z), tt)
 variables_cost (variable e some most rest) = let ih = variables_cost rest in (omega (arith, ap length e), ((some, most), ih.1))
 
-pub prefix_cost : {v : ℕ} {ws : List Token} {bs : List Binding} → PrefixLines v ws bs → (length (prefix_lines bs) ≤ cost ws) × All (λ b. Fits v b.variable) bs
+pub prefix_cost : {v : ℕ} {ws : List Token} {bs : List Binding} → PrefixLines v ws bs → (length (prefix_lines bs) ≤ cost ws) × AllByRecursion (λ b. Fits v b.variable) bs
 prefix_cost no_lines = (omega arith, tt)
 prefix_cost {v} (prefix_line {w} {ws} {us} {q} {n} {ns} {bs} one e variables rest) =
     let ih = prefix_cost rest in
@@ -118,14 +118,14 @@ prefix_cost {v} (prefix_line {w} {ws} {us} {q} {n} {ns} {bs} one e variables res
 abbrev pub clause_cost : List Binding → List ℕ → ℕ
 clause_cost prefix c = total (literal_cost prefix) c + 2
 
-one_clause : {v : ℕ} {prefix : List Binding} {ws : List Token} {c : List ℕ} → Clause v prefix ws c → (cost ws ≡ clause_cost prefix c) × All (Known v prefix) c
+one_clause : {v : ℕ} {prefix : List Binding} {ws : List Token} {c : List ℕ} → Clause v prefix ws c → (cost ws ≡ clause_cost prefix c) × AllByRecursion (Known v prefix) c
 one_clause (last_literal z) = (omega (arith, ap length z), tt)
 one_clause {v} {prefix} (literal {w} l {k} e some most coded rest) =
     let ih = one_clause rest in
     let b : w.bytes ≡ written (literal_of prefix k) = e ∙ ap written (sym (literal_back prefix l k coded)) in
     (omega (arith, ap length b), (known v prefix l k some most coded, ih.1))
 
-pub clauses_cost : {v : ℕ} {prefix : List Binding} {ws : List Token} {cs : List (List ℕ)} → Clauses v prefix ws cs → (cost ws ≡ total (clause_cost prefix) cs) × All (All (Known v prefix)) cs
+pub clauses_cost : {v : ℕ} {prefix : List Binding} {ws : List Token} {cs : List (List ℕ)} → Clauses v prefix ws cs → (cost ws ≡ total (clause_cost prefix) cs) × AllByRecursion (AllByRecursion (Known v prefix)) cs
 clauses_cost no_clauses = (refl, tt)
 clauses_cost (more {ws} {us} c rest) =
     let h = one_clause c in

@@ -1,6 +1,6 @@
 -- The words of a line, and of lines one after the other.
 use Rattle.std.proofs.Common.{◌≡◌, ℕ, suc, ◌+◌, ◌%◌, ◌^◌, ◌<◌, ◌≤◌, Bool, true, false, eqb, List, [], ◌∷◌, ◌++◌, map, length, decimal, sym, refl, ap, ◌∙◌, subst, append_assoc, add-zero, arith, length-append}
-use Rattle.std.specs.List.{flat_map, AllByRecursion as All}
+use Rattle.std.specs.List.{flat_map, AllByRecursion}
 use Rattle.std.proofs.lemmas.Fmt.{decimal_nonempty, decimal_by_steps, length-decimal-le}
 use Rattle.std.proofs.ByRecursion.{All-push}
 use Rattle.std.proofs.lemmas.Bool.{cond-false, cond_both, ne_eqb}
@@ -16,7 +16,7 @@ use Rattle.rendering.proofs.Sums.{total}
 
 -- bytes that can be a word
 abbrev pub Spelled : List ℕ → Type 0
-Spelled w = (0 < length w) × All Inked w
+Spelled w = (0 < length w) × AllByRecursion Inked w
 
 ink_digit : (n : ℕ) → n < 10 → Inked (48 + n)
 ink_digit n h = cond-false (eqb (48 + n) 10) _ _ (ne_eqb (48 + n) 10 (λ e. omega arith)) ∙ cond-false (eqb (48 + n) 32) _ _ (ne_eqb (48 + n) 32 (λ e. omega arith))
@@ -24,7 +24,7 @@ ink_digit n h = cond-false (eqb (48 + n) 10) _ _ (ne_eqb (48 + n) 10 (λ e. omeg
 pub number_spelled : (n : ℕ) → n ≤ 9999 → Spelled (decimal n)
 number_spelled n h = (
   decimal_nonempty n (omega arith),
-  decimal_by_steps (λ _ ds. All Inked ds) (λ m l. (ink_digit m l, tt)) (λ m ds l a. All-push Inked ds (48 + m % 10) a (ink_digit (m % 10) (omega arith))) n (omega arith),
+  decimal_by_steps (λ _ ds. AllByRecursion Inked ds) (λ m l. (ink_digit m l, tt)) (λ m ds l a. All-push Inked ds (48 + m % 10) a (ink_digit (m % 10) (omega arith))) n (omega arith),
 )
 
 pub literal_spelled : (l : Literal) → l.variable ≤ 9999 → Spelled (written l)
@@ -49,7 +49,7 @@ abbrev pub line_at : ℕ → Bool → List (List ℕ) → List ℕ → List Toke
 line_at off f [] end = record { at = off; bytes = end; first = f } ∷ []
 line_at off f (w ∷ ws) end = record { at = off; bytes = w; first = f } ∷ line_at (off + length w + 1) false ws end
 
-pub scan_line : (f : Bool) (off : ℕ) (ws : List (List ℕ)) (end rest : List ℕ) → All Spelled ws → Spelled end → scan (gap f) off (line ws end ++ rest) ≡ line_at off f ws end ++ scan (gap true) (off + length (line ws end)) rest
+pub scan_line : (f : Bool) (off : ℕ) (ws : List (List ℕ)) (end rest : List ℕ) → AllByRecursion Spelled ws → Spelled end → scan (gap f) off (line ws end ++ rest) ≡ line_at off f ws end ++ scan (gap true) (off + length (line ws end)) rest
 scan_line f off [] end rest a s =
     let n : off + length end + 1 ≡ off + length (end ++ 10 ∷ []) = omega (arith, length-append end (10 ∷ [])) in
     ap (scan (gap f) off) (append_assoc end (10 ∷ []) rest)
@@ -75,7 +75,7 @@ pub last_line : (d : ℕ) (ws : List (List ℕ)) (end : List ℕ) → last d (li
 last_line d [] end = last_append d end (10 ∷ [])
 last_line d (w ∷ ws) end = last_append d w (32 ∷ line ws end) ∙ last_line 32 ws end
 
-pub not_first : (off : ℕ) (ws : List (List ℕ)) (end : List ℕ) → All (λ u. u.first ≡ false) (line_at off false ws end)
+pub not_first : (off : ℕ) (ws : List (List ℕ)) (end : List ℕ) → AllByRecursion (λ u. u.first ≡ false) (line_at off false ws end)
 not_first off [] end = (refl, tt)
 not_first off (w ∷ ws) end = (refl, not_first (off + length w + 1) ws end)
 
@@ -94,7 +94,7 @@ lines_at g off (x ∷ xs) = line_at off true (g x) zero_word ++ lines_at g (off 
 zero_spelled : Spelled zero_word
 zero_spelled = (omega arith, (refl, tt))
 
-pub scan_lines : {X : Type 0} (g : X → List (List ℕ)) (off : ℕ) (xs : List X) (rest : List ℕ) → All (λ x. All Spelled (g x)) xs → scan (gap true) off (lines g xs ++ rest) ≡ lines_at g off xs ++ scan (gap true) (off + length (lines g xs)) rest
+pub scan_lines : {X : Type 0} (g : X → List (List ℕ)) (off : ℕ) (xs : List X) (rest : List ℕ) → AllByRecursion (λ x. AllByRecursion Spelled (g x)) xs → scan (gap true) off (lines g xs ++ rest) ≡ lines_at g off xs ++ scan (gap true) (off + length (lines g xs)) rest
 scan_lines g off [] rest a = ap (λ (o : ℕ). scan (gap true) o rest) (sym (add-zero off))
 scan_lines g off (x ∷ xs) rest a =
     let l = line (g x) zero_word in

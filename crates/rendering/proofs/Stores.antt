@@ -1,6 +1,6 @@
 -- A set of clauses in its one form is stored as it is.
 use Rattle.std.proofs.Common.{◌≡◌, ℕ, ◌<◌, ◌≤◌, Bool, true, false, List, [], ◌∷◌, ◌++◌, map, length, sym, refl, ap, ◌∙◌, subst, inl, inr, append_assoc, append-nil, arith}
-use Rattle.std.specs.List.{AllByRecursion as All}
+use Rattle.std.specs.List.{AllByRecursion}
 use Rattle.std.proofs.ByRecursion.{All-push, All-weaker, All-map}
 use Rattle.std.proofs.lemmas.List.{length-map}
 use Rattle.std.proofs.lemmas.Bool.{both_ways, cond-false, or_from}
@@ -59,32 +59,32 @@ unlike c d r t b = on (same_set c d) refl
         absurd (both_ways (below c c) (below_not_self c) (subst (λ (x : List ℕ). below x c ≡ true) (sym e) b))
     on false s = s
 
-unrepeated : (c : List ℕ) (stored : List (List ℕ)) → Rising c → All Rising stored → All (λ d. below d c ≡ true) stored → repeated c stored ≡ false
+unrepeated : (c : List ℕ) (stored : List (List ℕ)) → Rising c → AllByRecursion Rising stored → AllByRecursion (λ d. below d c ≡ true) stored → repeated c stored ≡ false
 unrepeated c [] r a b = refl
 unrepeated c (d ∷ stored) r a b = or_from (same_set c d) (repeated c stored) (unlike c d r a.0 b.0) (unrepeated c stored r a.1 b.1)
 
-store_next : (stored : List (List ℕ)) (c : List ℕ) → Rising c → All Rising stored → All (λ d. below d c ≡ true) stored → both_signs c ≡ false → store stored c ≡ stored ++ c ∷ []
+store_next : (stored : List (List ℕ)) (c : List ℕ) → Rising c → AllByRecursion Rising stored → AllByRecursion (λ d. below d c ≡ true) stored → both_signs c ≡ false → store stored c ≡ stored ++ c ∷ []
 store_next stored c r a b s =
     let o = once_rising c r in
     cond-false (both_signs c) _ _ s
     ∙ cond-false (repeated (once c) stored) _ _ (ap (λ (q : List ℕ). repeated q stored) o ∙ unrepeated c stored r a b)
     ∙ ap (λ (q : List ℕ). stored ++ q ∷ []) o
 
-store_rest : (s stored : List (List ℕ)) → All Rising stored → Canonical s → All (λ d. All (λ c. below d c ≡ true) s) stored → All (λ c. both_signs c ≡ false) s → store_all stored s ≡ stored ++ s
+store_rest : (s stored : List (List ℕ)) → AllByRecursion Rising stored → Canonical s → AllByRecursion (λ d. AllByRecursion (λ c. below d c ≡ true) s) stored → AllByRecursion (λ c. both_signs c ≡ false) s → store_all stored s ≡ stored ++ s
 store_rest [] stored a h b o = sym (append-nil stored)
 store_rest (c ∷ s) stored a h b o =
-    let now : All (λ d. below d c ≡ true) stored = All-weaker (λ d. All (λ c. below d c ≡ true) (c ∷ s)) (λ d. below d c ≡ true) (λ d x. x.0) stored b in
-    let later : All (λ d. All (λ c. below d c ≡ true) s) stored = All-weaker (λ d. All (λ c. below d c ≡ true) (c ∷ s)) (λ d. All (λ c. below d c ≡ true) s) (λ d x. x.1) stored b in
+    let now : AllByRecursion (λ d. below d c ≡ true) stored = All-weaker (λ d. AllByRecursion (λ c. below d c ≡ true) (c ∷ s)) (λ d. below d c ≡ true) (λ d x. x.0) stored b in
+    let later : AllByRecursion (λ d. AllByRecursion (λ c. below d c ≡ true) s) stored = All-weaker (λ d. AllByRecursion (λ c. below d c ≡ true) (c ∷ s)) (λ d. AllByRecursion (λ c. below d c ≡ true) s) (λ d x. x.1) stored b in
     ap (λ (q : List (List ℕ)). store_all q s) (store_next stored c h.0.0 a now o.0)
-    ∙ store_rest s (stored ++ c ∷ []) (All-push Rising stored c a h.0.0) (h.0.1, h.1.1) (All-push (λ d. All (λ c. below d c ≡ true) s) stored c later h.1.0) o.1
+    ∙ store_rest s (stored ++ c ∷ []) (All-push Rising stored c a h.0.0) (h.0.1, h.1.1) (All-push (λ d. AllByRecursion (λ c. below d c ≡ true) s) stored c later h.1.0) o.1
     ∙ append_assoc stored (c ∷ []) s
 
-pub stored_same : (s : List (List ℕ)) → Canonical s → All (λ c. both_signs c ≡ false) s → store_all [] s ≡ s
+pub stored_same : (s : List (List ℕ)) → Canonical s → AllByRecursion (λ c. both_signs c ≡ false) s → store_all [] s ≡ s
 stored_same s h o = store_rest s [] tt h tt o
 
 -- what holds of all codes written holds of all codes of the set that is formed
 
-all_left : {A : Type 0} (P : A → Type 0) {xs ys : List A} → LeavesOut xs ys → All P ys → All P xs
+all_left : {A : Type 0} (P : A → Type 0) {xs ys : List A} → LeavesOut xs ys → AllByRecursion P ys → AllByRecursion P xs
 all_left P done a = tt
 all_left P (keeps l) a = (a.0, all_left P l a.1)
 all_left P (skips l) a = all_left P l a.1
@@ -102,13 +102,13 @@ length_stored written =
     let c : length (map once written) ≡ length written = simp length-map in
     omega arith
 
-pub codes_stored : (P : ℕ → Type 0) (written : List (List ℕ)) → All (All P) written → All (All P) (store_all [] written)
+pub codes_stored : (P : ℕ → Type 0) (written : List (List ℕ)) → AllByRecursion (AllByRecursion P) written → AllByRecursion (AllByRecursion P) (store_all [] written)
 codes_stored P written a =
-    all_left (All P) (stored_stands_lem written).in_order (All-map (All P) once written (All-weaker (All P) (λ c. All P (once c)) (once_all P) written a))
+    all_left (AllByRecursion P) (stored_stands_lem written).in_order (All-map (AllByRecursion P) once written (All-weaker (AllByRecursion P) (λ c. AllByRecursion P (once c)) (once_all P) written a))
 
-pub codes_formed : (P : ℕ → Type 0) (written : List (List ℕ)) → All (All P) written → All (All P) (formed [] (store_all [] written))
+pub codes_formed : (P : ℕ → Type 0) (written : List (List ℕ)) → AllByRecursion (AllByRecursion P) written → AllByRecursion (AllByRecursion P) (formed [] (store_all [] written))
 codes_formed P written a =
-    all_formed (All P) [] (store_all [] written) tt (All-weaker (All P) (λ c. All P (clause_of c)) (all_clause P) (store_all [] written) (codes_stored P written a))
+    all_formed (AllByRecursion P) [] (store_all [] written) tt (All-weaker (AllByRecursion P) (λ c. AllByRecursion P (clause_of c)) (all_clause P) (store_all [] written) (codes_stored P written a))
 
 one_sign : (c : List ℕ) → both_signs c ≡ false → both_signs (clause_of c) ≡ false
 one_sign c b = on (both_signs (clause_of c)) refl
@@ -120,7 +120,7 @@ one_sign c b = on (both_signs (clause_of c)) refl
         absurd (both_ways (both_signs c) b ((signs c).1 (k.0, (m k.0).0 k.1, (m _).0 k.2)))
     on false t = t
 
-pub one_sign_formed : (written : List (List ℕ)) → All (λ c. both_signs c ≡ false) (formed [] (store_all [] written))
+pub one_sign_formed : (written : List (List ℕ)) → AllByRecursion (λ c. both_signs c ≡ false) (formed [] (store_all [] written))
 one_sign_formed written =
     all_formed (λ c. both_signs c ≡ false) [] (store_all [] written) tt
     (All-weaker (λ c. both_signs c ≡ false) (λ c. both_signs (clause_of c) ≡ false) one_sign (store_all [] written) (stored_stands_lem written).one_sign)

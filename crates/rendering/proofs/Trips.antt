@@ -1,6 +1,6 @@
 -- What is written is read back.
 use Rattle.std.proofs.Common.{◌≡◌, ℕ, ◌+◌, ◌≤◌, true, List, [], ◌++◌, length, decimal, sym, refl, ap, ◌∙◌, subst, arith}
-use Rattle.std.specs.List.{AllByRecursion as All}
+use Rattle.std.specs.List.{AllByRecursion}
 use Rattle.formula.specs.Views.{Reading}
 use Rattle.grammar.specs.Grammar.{PrefixLines, Format}
 use Rattle.grammar.specs.Stored.{store_all}
@@ -47,7 +47,7 @@ format {text} {f} h =
     let s = set_of h.written_clauses in
     let p = problem_cost h.problem_is in
     let small : length s ≤ 2048 = let c = p.clauses_fit in let l = few h in omega arith in
-    let known : All (All (Known v prefix)) s = codes_formed (Known v prefix) h.written_clauses (clauses_cost h.clauses_are).1 in
+    let known : AllByRecursion (AllByRecursion (Known v prefix)) s = codes_formed (Known v prefix) h.written_clauses (clauses_cost h.clauses_are).1 in
     let fits = fitting v prefix (prefix_cost h.prefix_is).1 in
     let bs = blocks_stand_lem prefix in
     let i : ℕ = length (problem_line v (length s)) in

@@ -1,6 +1,6 @@
 -- What is proved of the text that is written.
 use Rattle.std.specs.Prelude.{◌≡◌, ℕ, ◌<◌, ◌≤◌, List, [], ◌∷◌, map, length, Ok, ◌≢◌}
-use Rattle.std.specs.List.{flat_map, AllByRecursion as All}
+use Rattle.std.specs.List.{flat_map, AllByRecursion}
 use Rattle.formula.specs.declared.prefix.Binding.{Binding}
 use Rattle.formula.specs.Views.{Reading}
 use Rattle.grammar.specs.Grammar.{bind, Format}
@@ -17,7 +17,7 @@ Alternate (k ∷ l ∷ ks) = (k.quantifier ≢ l.quantifier) × Alternate (l ∷
 -- the blocks make up the prefix, none is empty, and none could be longer
 pub record Blocked (prefix : List Binding) (ks : List Block) : Type 0 where
   pub whole : flat_map (λ k. map (bind k.quantifier) k.variables) ks ≡ prefix
-  pub filled : All (λ k. 0 < length k.variables) ks
+  pub filled : AllByRecursion (λ k. 0 < length k.variables) ks
   pub longest : Alternate ks
 
 -- the blocks of every prefix are its longest runs of neighbours with one quantifier

@@ -1,6 +1,6 @@
 -- A call by its line and its body.
 use Rattle.std.proofs.Common.{◌≡◌, ℕ, ◌-◌, ◌^◌, ◌<◌, ◌≤◌, true, List, [], ◌∷◌, ◌++◌, length, get_or, take, drop, codes, decimal, sym, refl, ap, ◌∙◌, subst, arith}
-use Rattle.std.specs.List.{AllByRecursion as All}
+use Rattle.std.specs.List.{AllByRecursion}
 use Rattle.std.proofs.ByRecursion.{All-push}
 use Rattle.std.proofs.lemmas.List.Prefix.{front_fits, end_rest}
 use Rattle.std.proofs.lemmas.List.{append_assoc, append-nil, length-append, length-drop, length-take-le, take-append-drop}
@@ -99,7 +99,7 @@ spelled_push [] c = append-nil (spelled c)
 spelled_push (d ∷ cs) c = ap (λ (bs : List ℕ). spelled d ++ bs) (spelled_push cs c) ∙ sym (append_assoc (spelled d) (spelled_all cs) (spelled c))
 
 -- the same of calls that are in range, at a list that is known to be the longer one
-pub one_more : (cs ks : List Call) (c : Call) (text here next : List ℕ) → ks ≡ cs ++ c ∷ [] → All InRange cs → InRange c → text ≡ spelled_all cs ++ here → here ≡ spelled c ++ next → All InRange ks × (text ≡ spelled_all ks ++ next)
+pub one_more : (cs ks : List Call) (c : Call) (text here next : List ℕ) → ks ≡ cs ++ c ∷ [] → AllByRecursion InRange cs → InRange c → text ≡ spelled_all cs ++ here → here ≡ spelled c ++ next → AllByRecursion InRange ks × (text ≡ spelled_all ks ++ next)
 one_more cs ks c text here next k rs r p q =
     let more = p ∙ ap (λ (bs : List ℕ). spelled_all cs ++ bs) q ∙ sym (append_assoc (spelled_all cs) (spelled c) next) ∙ ap (λ (bs : List ℕ). bs ++ next) (sym (spelled_push cs c)) in
-    (subst (All InRange) (sym k) (All-push InRange cs c rs r), more ∙ ap (λ (ds : List Call). spelled_all ds ++ next) (sym k))
+    (subst (AllByRecursion InRange) (sym k) (All-push InRange cs c rs r), more ∙ ap (λ (ds : List Call). spelled_all ds ++ next) (sym k))

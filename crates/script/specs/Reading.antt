@@ -1,6 +1,6 @@
 -- What it means that a call, a first line or a script is read of a text.
 use Rattle.std.specs.Prelude.{◌≡◌, ℕ, ◌^◌, ◌<◌, ◌≤◌, Bool, true, not, ◌&&◌, List, [], ◌∷◌, ◌++◌, length, drop, vec_items, MatchOption, ◌==◌, ◌≢◌}
-use Rattle.std.specs.List.{AllByRecursion as All}
+use Rattle.std.specs.List.{AllByRecursion}
 use Rattle.script.specs.declared.calls.Call.{Call}
 use Rattle.script.specs.declared.calls.Call.TheVariants.{Load, Decide, Write, Forget}
 use Rattle.script.specs.declared.calls.Make.{Make}
@@ -51,14 +51,14 @@ pub record Opened (script : List ℕ) (m : Make) (next : ℕ) : Type 0 where
 
 -- calls are spelled one behind the other from a place on, and none further where they stop
 pub record Calls (script : List ℕ) (at : ℕ) (cs : List Call) (stopped : ℕ) : Type 0 where
-  pub range : All InRange cs
+  pub range : AllByRecursion InRange cs
   pub within : stopped ≤ length script
   pub spells : drop at script ≡ spelled_all cs ++ drop stopped script
   pub stops : NoCall (drop stopped script)
 
 -- the script is the spelling of a first line and of calls up to the place where no call is spelled any more
 pub record Spells (script : List ℕ) (m : Make) (cs : List Call) (stopped : ℕ) : Type 0 where
-  pub range : All InRange cs
+  pub range : AllByRecursion InRange cs
   pub within : stopped ≤ length script
   pub spells : script ≡ spelled_make m ++ spelled_all cs ++ drop stopped script
   pub stops : NoCall (drop stopped script)

@@ -1,6 +1,6 @@
 -- Facts of a core and its formula.
 use Rattle.std.proofs.Common.{◌≡◌, ℕ, zero, ◌*◌, ◌<◌, ◌≤◌, Bool, true, false, ◌||◌, eqb, List, [], ◌∷◌, length, is_some, Some, None, Option, sym, refl, ap, ◌∙◌, subst, inl, inr, arith}
-use Rattle.std.specs.List.{AllByRecursion as All}
+use Rattle.std.specs.List.{AllByRecursion}
 use Rattle.std.proofs.lemmas.Bool.Decides.{nat_tests}
 use Rattle.std.proofs.lemmas.List.{length-map}
 use Rattle.qbf.specs.declared.Candidate.{Candidate}
@@ -25,22 +25,22 @@ use Rattle.session.specs.Places.{bindings_in, prefix_in}
 use Rattle.session.specs.Views.{formula_in, core_stands}
 
 -- literals below a number, by the list and by what occurs
-below_mem : (n : ℕ) (c : List ℕ) → All (λ l. l < n) c → (l : ℕ) → mem l c ≡ true → l < n
+below_mem : (n : ℕ) (c : List ℕ) → AllByRecursion (λ l. l < n) c → (l : ℕ) → mem l c ≡ true → l < n
 below_mem n [] h l e = absurd (grind (arith, nat_tests))
 below_mem n (x ∷ c) h l e = let ih = below_mem n c h.1 l in let a = h.0 in grind (arith, nat_tests)
 
-pub below_occurs : (n : ℕ) (s : List (List ℕ)) → All (All (λ l. l < n)) s → (l : ℕ) → occurs l s ≡ true → l < n
+pub below_occurs : (n : ℕ) (s : List (List ℕ)) → AllByRecursion (AllByRecursion (λ l. l < n)) s → (l : ℕ) → occurs l s ≡ true → l < n
 below_occurs n [] h l e = absurd (grind (arith, nat_tests))
 below_occurs n (c ∷ s) h l e = let ih = below_occurs n s h.1 l in let a = below_mem n c h.0 l in grind (arith, nat_tests)
 
-mem_below : (n : ℕ) (c : List ℕ) → ((l : ℕ) → mem l c ≡ true → l < n) → All (λ l. l < n) c
+mem_below : (n : ℕ) (c : List ℕ) → ((l : ℕ) → mem l c ≡ true → l < n) → AllByRecursion (λ l. l < n) c
 mem_below n [] h = tt
 mem_below n (x ∷ c) h = (
   h x (grind (arith, nat_tests)),
   mem_below n c (λ l e. h l (grind (arith, nat_tests))),
 )
 
-pub occurs_below : (n : ℕ) (s : List (List ℕ)) → ((l : ℕ) → occurs l s ≡ true → l < n) → All (All (λ l. l < n)) s
+pub occurs_below : (n : ℕ) (s : List (List ℕ)) → ((l : ℕ) → occurs l s ≡ true → l < n) → AllByRecursion (AllByRecursion (λ l. l < n)) s
 occurs_below n [] h = tt
 occurs_below n (c ∷ s) h = (
   mem_below n c (λ l e. h l (grind (arith, nat_tests))),
@@ -49,7 +49,7 @@ occurs_below n (c ∷ s) h = (
 
 -- the loaded formula may be decided, and written
 module _ (core : Core) (f : Stored) (p : Prefix) (there : core.formula ≡ Some f) (bound : core.prefix ≡ Some p) where
-  pub formula_below : All (All (λ l. l < 2 * length (bindings_of p))) (clauses core.table f.number)
+  pub formula_below : AllByRecursion (AllByRecursion (λ l. l < 2 * length (bindings_of p))) (clauses core.table f.number)
   formula_below = occurs_below _ (clauses core.table f.number) (λ l e. subst (λ (o : Option Prefix). l < 2 * length (bindings_in o)) bound (core.within f there l e))
 
   pub formula_ready : Ready (quantifiers_of p) core.table f.number
@@ -89,9 +89,9 @@ module _ (u : Table) (o : Option Prefix) (p : List Binding) (s : Stored) (under 
   pub stored_few : length (clauses u s.number) ≤ 2048 → length (clauses u f.number) ≤ 2048
   stored_few h = subst (λ (x : Stored). length (clauses u x.number) ≤ 2048) same h
 
-  pub stored_within : All (All (λ l. l < 2 * length p)) (clauses u s.number) → (l : ℕ) → occurs l (clauses u f.number) ≡ true → l < 2 * length (bindings_in o)
+  pub stored_within : AllByRecursion (AllByRecursion (λ l. l < 2 * length p)) (clauses u s.number) → (l : ℕ) → occurs l (clauses u f.number) ≡ true → l < 2 * length (bindings_in o)
   stored_within h l occ =
-      let below = subst (λ (x : Stored). All (All (λ l. l < 2 * length p)) (clauses u x.number)) same h in
+      let below = subst (λ (x : Stored). AllByRecursion (AllByRecursion (λ l. l < 2 * length p)) (clauses u x.number)) same h in
       subst (λ (q : List Binding). l < 2 * length q) (sym (bindings_by o p under)) (below_occurs (2 * length p) (clauses u f.number) below l occ)
 
 -- a decision of the loaded formula

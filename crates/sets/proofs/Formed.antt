@@ -1,6 +1,6 @@
 -- The set of clauses that are stored one after the other.
 use Rattle.std.proofs.Common.{◌≡◌, ℕ, ◌+◌, ◌<◌, ◌≤◌, ◌⊎◌, List, [], ◌∷◌, length, sym, refl, ap, ◌∙◌, subst, inl, inr, arith}
-use Rattle.std.specs.List.{AllByRecursion as All}
+use Rattle.std.specs.List.{AllByRecursion}
 use Rattle.std.proofs.lemmas.Bool.Decides.{nat_tests}
 use Rattle.qbf.specs.Lists.{In}
 use Rattle.qbf.specs.Clauses.{Rising, Canonical, union}
@@ -19,7 +19,7 @@ pub canonical_formed : (s cs : List (List ℕ)) → Canonical s → Canonical (f
 canonical_formed s [] h = h
 canonical_formed s (c ∷ cs) h = canonical_formed (union (clause_of c ∷ []) s) cs (canonical_union (clause_of c ∷ []) s (canonical_one c) h)
 
-pub canonical_forming : (s cs : List (List ℕ)) → Canonical s → All Canonical (forming s cs)
+pub canonical_forming : (s cs : List (List ℕ)) → Canonical s → AllByRecursion Canonical (forming s cs)
 canonical_forming s [] h = tt
 canonical_forming s (c ∷ cs) h =
     let u = canonical_union (clause_of c ∷ []) s (canonical_one c) h in
@@ -32,7 +32,7 @@ length_formed s (c ∷ cs) =
     let ih = length_formed (union (clause_of c ∷ []) s) cs in
     omega arith
 
-pub all_formed : (P : List ℕ → Type 0) (s cs : List (List ℕ)) → All P s → All (λ c. P (clause_of c)) cs → All P (formed s cs)
+pub all_formed : (P : List ℕ → Type 0) (s cs : List (List ℕ)) → AllByRecursion P s → AllByRecursion (λ c. P (clause_of c)) cs → AllByRecursion P (formed s cs)
 all_formed P s [] h k = h
 all_formed P s (c ∷ cs) h k = all_formed P (union (clause_of c ∷ []) s) cs (all_union P (clause_of c ∷ []) s (k.0, tt) h) k.1
 
@@ -61,7 +61,7 @@ pub clause_rising : (c : List ℕ) → Rising c → clause_of c ≡ c
 clause_rising [] r = refl
 clause_rising (x ∷ c) r = ap (placed x) (clause_rising c r.1) ∙ first c r.0
   where
-    first : (c : List ℕ) → All (λ y. x < y) c → placed x c ≡ x ∷ c
+    first : (c : List ℕ) → AllByRecursion (λ y. x < y) c → placed x c ≡ x ∷ c
     first [] a = refl
     first (y ∷ c) a = let l = a.0 in grind (arith, nat_tests)
 

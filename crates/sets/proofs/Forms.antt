@@ -1,6 +1,6 @@
 -- Each operation keeps the one form of a set.
 use Rattle.std.proofs.Common.{◌≡◌, ℕ, ◌<◌, ◌≤◌, true, not, List, [], ◌∷◌, arith}
-use Rattle.std.specs.List.{AllByRecursion as All}
+use Rattle.std.specs.List.{AllByRecursion}
 use Rattle.std.proofs.lemmas.Bool.Decides.{nat_tests}
 use Rattle.std.proofs.ByRecursion.{all_kept_by, All-map, All-weaker}
 use Rattle.qbf.specs.Literals.{complement}
@@ -42,14 +42,14 @@ pub one_form : OneForm
 one_form s t h k same = sorted_same s t h.1 k.1 (λ c. (same c).0) (λ c. (same c).1)
 
 -- the first code of a set is its lowest
-head_lowest : (k : ℕ) (c : List ℕ) (s : List (List ℕ)) → All Rising s → Rising (k ∷ c) → All (λ d. below (k ∷ c) d ≡ true) s → All (All (λ x. k ≤ x)) ((k ∷ c) ∷ s)
+head_lowest : (k : ℕ) (c : List ℕ) (s : List (List ℕ)) → AllByRecursion Rising s → Rising (k ∷ c) → AllByRecursion (λ d. below (k ∷ c) d ≡ true) s → AllByRecursion (AllByRecursion (λ x. k ≤ x)) ((k ∷ c) ∷ s)
 head_lowest k c s r rc b = ((omega arith, All-weaker (λ x. k < x) (λ x. k ≤ x) (λ x h. omega arith) c rc.0), rest s r b)
   where
-    one : (d : List ℕ) → Rising d → below (k ∷ c) d ≡ true → All (λ x. k ≤ x) d
+    one : (d : List ℕ) → Rising d → below (k ∷ c) d ≡ true → AllByRecursion (λ x. k ≤ x) d
     one [] r b = tt
     one (y ∷ d) r b = let h : k ≤ y = grind (arith, nat_tests) in (h, All-weaker (λ x. y < x) (λ x. k ≤ x) (λ x g. omega arith) d r.0)
 
-    rest : (s : List (List ℕ)) → All Rising s → All (λ d. below (k ∷ c) d ≡ true) s → All (All (λ x. k ≤ x)) s
+    rest : (s : List (List ℕ)) → AllByRecursion Rising s → AllByRecursion (λ d. below (k ∷ c) d ≡ true) s → AllByRecursion (AllByRecursion (λ x. k ≤ x)) s
     rest [] r b = tt
     rest (d ∷ s) r b = (one d r.0 b.0, rest s r.1 b.1)
 

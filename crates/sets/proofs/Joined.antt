@@ -1,6 +1,6 @@
 -- Sets by their two sides: what the operations make of them.
 use Rattle.std.proofs.Common.{◌≡◌, ℕ, ◌+◌, ◌<◌, ◌≤◌, true, false, not, ◌⊎◌, List, [], ◌∷◌, map, length, sym, refl, ap, ◌∙◌, subst, inl, inr, arith, length-append}
-use Rattle.std.specs.List.{AllByRecursion as All}
+use Rattle.std.specs.List.{AllByRecursion}
 use Rattle.std.proofs.lemmas.Bool.Decides.{nat_tests}
 use Rattle.std.proofs.lemmas.List.{length-map}
 use Rattle.std.proofs.ByRecursion.{All-append, all_kept_by, All-map, All-weaker}
@@ -15,13 +15,13 @@ abbrev Set : Type 0
 Set = List (List ℕ)
 
 pub over_less : (j k : ℕ) (s : Set) → j ≤ k → Over k s → Over j s
-over_less j k s l a = All-weaker (All (λ y. k < y)) (All (λ y. j < y)) (λ c. All-weaker (λ y. k < y) (λ y. j < y) (λ y h. omega arith) c) s a
+over_less j k s l a = All-weaker (AllByRecursion (λ y. k < y)) (AllByRecursion (λ y. j < y)) (λ c. All-weaker (λ y. k < y) (λ y. j < y) (λ y h. omega arith) c) s a
 
 over_put : (j k : ℕ) (hi : Set) → j < k → Over k hi → Over j (map (λ c. k ∷ c) hi)
-over_put j k hi l a = All-map (All (λ y. j < y)) (λ c. k ∷ c) hi (All-weaker (All (λ y. k < y)) (λ c. All (λ y. j < y) (k ∷ c)) (λ c h. (l, All-weaker (λ y. k < y) (λ y. j < y) (λ y g. omega arith) c h)) hi a)
+over_put j k hi l a = All-map (AllByRecursion (λ y. j < y)) (λ c. k ∷ c) hi (All-weaker (AllByRecursion (λ y. k < y)) (λ c. AllByRecursion (λ y. j < y) (k ∷ c)) (λ c h. (l, All-weaker (λ y. k < y) (λ y. j < y) (λ y g. omega arith) c h)) hi a)
 
 pub over_joined : (j k : ℕ) (hi lo : Set) → j < k → Over k hi → Over k lo → Over j (joined k hi lo)
-over_joined j k hi lo l a b = All-append (All (λ y. j < y)) (map (λ c. k ∷ c) hi) lo (over_put j k hi l a) (over_less j k lo (omega arith) b)
+over_joined j k hi lo l a b = All-append (AllByRecursion (λ y. j < y)) (map (λ c. k ∷ c) hi) lo (over_put j k hi l a) (over_less j k lo (omega arith) b)
 
 -- the sides are read off a set
 
@@ -45,15 +45,15 @@ same_sides k hi lo hi' lo' a b e = (
 
 -- the form
 
-rising_put : (k : ℕ) (hi : Set) → All Rising hi → Over k hi → All Rising (map (λ c. k ∷ c) hi)
+rising_put : (k : ℕ) (hi : Set) → AllByRecursion Rising hi → Over k hi → AllByRecursion Rising (map (λ c. k ∷ c) hi)
 rising_put k [] r a = tt
 rising_put k (c ∷ hi) r a = ((a.0, r.0), rising_put k hi r.1 a.1)
 
-below_put : (k : ℕ) (c : List ℕ) (hi : Set) → All (λ d. below c d ≡ true) hi → All (λ d. below (k ∷ c) d ≡ true) (map (λ c. k ∷ c) hi)
+below_put : (k : ℕ) (c : List ℕ) (hi : Set) → AllByRecursion (λ d. below c d ≡ true) hi → AllByRecursion (λ d. below (k ∷ c) d ≡ true) (map (λ c. k ∷ c) hi)
 below_put k c [] a = tt
 below_put k c (d ∷ hi) a = (let h = a.0 in grind (arith, nat_tests), below_put k c hi a.1)
 
-below_over : (k : ℕ) (c : List ℕ) (lo : Set) → Over k lo → All (λ d. below (k ∷ c) d ≡ true) lo
+below_over : (k : ℕ) (c : List ℕ) (lo : Set) → Over k lo → AllByRecursion (λ d. below (k ∷ c) d ≡ true) lo
 below_over k c [] a = tt
 below_over k c ([] ∷ lo) a = (refl, below_over k c lo a.1)
 below_over k c ((x ∷ d) ∷ lo) a = (let h = a.0.0 in grind (arith, nat_tests), below_over k c lo a.1)
@@ -79,7 +79,7 @@ weave_early : (k : ℕ) (c : List ℕ) (rest : Set → Set) (lo : Set) → Over 
 weave_early k c rest [] a = refl
 weave_early k c rest (d ∷ lo) a = let b = (below_over k c (d ∷ lo) a).0 in grind (arith, nat_tests)
 
-weave_late : (k : ℕ) (c : List ℕ) (rest : Set → Set) (hi lo : Set) → All (λ y. k < y) c → weave c rest (joined k hi lo) ≡ joined k hi (weave c rest lo)
+weave_late : (k : ℕ) (c : List ℕ) (rest : Set → Set) (hi lo : Set) → AllByRecursion (λ y. k < y) c → weave c rest (joined k hi lo) ≡ joined k hi (weave c rest lo)
 weave_late k c rest [] lo a = refl
 weave_late k [] rest (d ∷ hi) lo a = let ih = weave_late k [] rest hi lo a in grind (arith, nat_tests)
 weave_late k (x ∷ c) rest (d ∷ hi) lo a = let ih = weave_late k (x ∷ c) rest hi lo a in let l = a.0 in grind (arith, nat_tests)
@@ -97,11 +97,11 @@ union_joined k (c ∷ h) l hi lo a b = go (λ hi. union_joined k h l hi lo a b) 
     go rec (d ∷ hi) = let r = rec (d ∷ hi) in let q = rec hi in let i = go rec hi in grind (arith, nat_tests)
 
 pub over_union : (k : ℕ) (s t : Set) → Over k s → Over k t → Over k (union s t)
-over_union k s t = all_union (All (λ y. k < y)) s t
+over_union k s t = all_union (AllByRecursion (λ y. k < y)) s t
 
 -- the clauses without a literal, and those with it
 
-absent : (l k : ℕ) (c : List ℕ) → l ≤ k → All (λ y. k < y) c → mem l c ≡ false
+absent : (l k : ℕ) (c : List ℕ) → l ≤ k → AllByRecursion (λ y. k < y) c → mem l c ≡ false
 absent l k c h a = above_absent l k c h a
 
 pub lacking_over : (l k : ℕ) (s : Set) → l ≤ k → Over k s → lacking l s ≡ s
@@ -135,10 +135,10 @@ taken_out_other l k [] lo n = refl
 taken_out_other l k (c ∷ hi) lo n = let ih = taken_out_other l k hi lo n in grind (arith, nat_tests)
 
 pub over_lacking : (k l : ℕ) (s : Set) → Over k s → Over k (lacking l s)
-over_lacking k l s a = all_kept_by (λ c. not (mem l c)) (All (λ y. k < y)) s a
+over_lacking k l s a = all_kept_by (λ c. not (mem l c)) (AllByRecursion (λ y. k < y)) s a
 
 pub over_taken_out : (k l : ℕ) (s : Set) → Over k s → Over k (taken_out l s)
-over_taken_out k l s a = All-map (All (λ y. k < y)) (without l) (holding l s) (All-weaker (All (λ y. k < y)) (λ c. All (λ y. k < y) (without l c)) (λ c h. all_without (λ y. k < y) l c h) (holding l s) (all_kept_by (mem l) (All (λ y. k < y)) s a))
+over_taken_out k l s a = All-map (AllByRecursion (λ y. k < y)) (without l) (holding l s) (All-weaker (AllByRecursion (λ y. k < y)) (λ c. AllByRecursion (λ y. k < y) (without l c)) (λ c h. all_without (λ y. k < y) l c h) (holding l s) (all_kept_by (mem l) (AllByRecursion (λ y. k < y)) s a))
 
 -- numbers of clauses
 

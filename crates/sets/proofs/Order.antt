@@ -1,6 +1,6 @@
 -- The order of clauses, and sets that are sorted by it.
 use Rattle.std.proofs.Common.{◌≡◌, ℕ, ◌<◌, ◌≤◌, Bool, true, false, eqb, ◌⊎◌, List, [], ◌∷◌, ◌++◌, map, filter, sym, refl, inl, inr, arith}
-use Rattle.std.specs.List.{AllByRecursion as All}
+use Rattle.std.specs.List.{AllByRecursion}
 use Rattle.std.proofs.lemmas.Bool.Decides.{nat_tests}
 use Rattle.std.proofs.lemmas.Bool.{cases_eq, cond_both}
 use Rattle.std.proofs.ByRecursion.{all_kept_by, All-weaker}
@@ -38,7 +38,7 @@ sorted_kept test (c ∷ s) h =
     cond_both (test c) _ _ Sorted (λ e. (all_kept_by test (λ d. below c d ≡ true) s h.0, ih)) (λ e. ih)
 
 -- taking out a literal that all have
-pub below_all : (x : ℕ) (c d : List ℕ) → All (λ y. x < y) d → below (x ∷ c) d ≡ true
+pub below_all : (x : ℕ) (c d : List ℕ) → AllByRecursion (λ y. x < y) d → below (x ∷ c) d ≡ true
 below_all x c [] a = refl
 below_all x c (y ∷ d) a = grind (arith, nat_tests)
 
@@ -54,11 +54,11 @@ below_without m (x ∷ c) (y ∷ d) rc rd h k b =
     let ba : x ≤ y → below (x ∷ without m c) d ≡ true = λ l. below_all x (without m c) d (All-weaker (λ z. y < z) (λ z. x < z) (λ z g. omega arith) d rd.0) in
     grind (arith, nat_tests)
 
-pub taken_out_above : (m : ℕ) (c : List ℕ) (s : List (List ℕ)) → Rising c → mem m c ≡ true → All Rising s → All (λ d. below c d ≡ true) s → All (λ d. below (without m c) d ≡ true) (taken_out m s)
+pub taken_out_above : (m : ℕ) (c : List ℕ) (s : List (List ℕ)) → Rising c → mem m c ≡ true → AllByRecursion Rising s → AllByRecursion (λ d. below c d ≡ true) s → AllByRecursion (λ d. below (without m c) d ≡ true) (taken_out m s)
 taken_out_above m c [] r e a b = tt
 taken_out_above m c (d ∷ s) r e a b =
     let ih = taken_out_above m c s r e a.1 b.1 in
-    cond_both (mem m d) _ _ (λ t. All (λ d. below (without m c) d ≡ true) (map (without m) t)) (λ f. (below_without m c d r a.0 e f b.0, ih)) (λ f. ih)
+    cond_both (mem m d) _ _ (λ t. AllByRecursion (λ d. below (without m c) d ≡ true) (map (without m) t)) (λ f. (below_without m c d r a.0 e f b.0, ih)) (λ f. ih)
 
 pub sorted_taken_out : (m : ℕ) (s : List (List ℕ)) → Canonical s → Sorted (taken_out m s)
 sorted_taken_out m [] h = tt
@@ -67,17 +67,17 @@ sorted_taken_out m (c ∷ s) (r, o) =
     cond_both (mem m c) _ _ (λ t. Sorted (map (without m) t)) (λ e. (taken_out_above m c s r.0 e r.1 o.0, ih)) (λ e. ih)
 
 -- the union
-pub all_union : (P : List ℕ → Type 0) (s t : List (List ℕ)) → All P s → All P t → All P (union s t)
+pub all_union : (P : List ℕ → Type 0) (s t : List (List ℕ)) → AllByRecursion P s → AllByRecursion P t → AllByRecursion P (union s t)
 all_union P [] t h k = k
 all_union P (c ∷ s) t h k = go (all_union P s) t k
   where
-    go : ((t : List (List ℕ)) → All P s → All P t → All P (union s t)) → (t : List (List ℕ)) → All P t → All P (weave c (union s) t)
+    go : ((t : List (List ℕ)) → AllByRecursion P s → AllByRecursion P t → AllByRecursion P (union s t)) → (t : List (List ℕ)) → AllByRecursion P t → AllByRecursion P (weave c (union s) t)
     go rec [] k = (h.0, rec [] h.1 tt)
     go rec (d ∷ t) k =
-        cond_both (below c d) _ _ (All P) (λ _. (h.0, rec (d ∷ t) h.1 k)) (λ _.
-        cond_both (below d c) _ _ (All P) (λ _. (k.0, go rec t k.1)) (λ _. (h.0, rec t h.1 k.1)))
+        cond_both (below c d) _ _ (AllByRecursion P) (λ _. (h.0, rec (d ∷ t) h.1 k)) (λ _.
+        cond_both (below d c) _ _ (AllByRecursion P) (λ _. (k.0, go rec t k.1)) (λ _. (h.0, rec t h.1 k.1)))
 
-all_below : (c d : List ℕ) (s : List (List ℕ)) → below c d ≡ true → All (λ e. below d e ≡ true) s → All (λ e. below c e ≡ true) s
+all_below : (c d : List ℕ) (s : List (List ℕ)) → below c d ≡ true → AllByRecursion (λ e. below d e ≡ true) s → AllByRecursion (λ e. below c e ≡ true) s
 all_below c d s h = All-weaker (λ e. below d e ≡ true) (λ e. below c e ≡ true) (λ e k. below_trans c d e h k) s
 
 pub sorted_union : (s t : List (List ℕ)) → Sorted s → Sorted t → Sorted (union s t)
@@ -139,13 +139,13 @@ sorted_same (c ∷ s) (d ∷ t) h k a b =
     tail x y u (inr i) b = i
 
 -- the two sides at the lowest code
-pub no_with : (k : ℕ) (c : List ℕ) (s : List (List ℕ)) → begins k c ≡ false → All (λ x. k ≤ x) c → All (λ d. below c d ≡ true) s → (with_side k s ≡ []) × (without_side k s ≡ s)
+pub no_with : (k : ℕ) (c : List ℕ) (s : List (List ℕ)) → begins k c ≡ false → AllByRecursion (λ x. k ≤ x) c → AllByRecursion (λ d. below c d ≡ true) s → (with_side k s ≡ []) × (without_side k s ≡ s)
 no_with k c [] n a b = (refl, refl)
 no_with k [] (d ∷ s) n a b = grind (arith, nat_tests)
 no_with k (y ∷ c) ([] ∷ s) n a b = let ih = no_with k (y ∷ c) s n a b.1 in grind (arith, nat_tests)
 no_with k (y ∷ c) ((z ∷ d) ∷ s) n a b = let ih = no_with k (y ∷ c) s n a b.1 in grind (arith, nat_tests)
 
-pub sides : (k : ℕ) (s : List (List ℕ)) → Sorted s → All (All (λ x. k ≤ x)) s → s ≡ map (λ c. k ∷ c) (with_side k s) ++ without_side k s
+pub sides : (k : ℕ) (s : List (List ℕ)) → Sorted s → AllByRecursion (AllByRecursion (λ x. k ≤ x)) s → s ≡ map (λ c. k ∷ c) (with_side k s) ++ without_side k s
 sides k [] h a = refl
 sides k ([] ∷ s) h a = let n = no_with k [] s refl tt h.0 in grind (arith, nat_tests)
 sides k ((x ∷ c) ∷ s) h a = let n = no_with k (x ∷ c) s in let ih = sides k s h.1 a.1 in

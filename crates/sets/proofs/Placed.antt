@@ -1,6 +1,6 @@
 -- A clause from its codes.
 use Rattle.std.proofs.Common.{◌≡◌, ℕ, ◌<◌, ◌||◌, eqb, ltb, ◌⊎◌, List, [], ◌∷◌, refl, ap, ◌∙◌, inl, inr, arith}
-use Rattle.std.specs.List.{AllByRecursion as All}
+use Rattle.std.specs.List.{AllByRecursion}
 use Rattle.std.proofs.lemmas.Bool.Decides.{nat_tests}
 use Rattle.std.proofs.lemmas.Bool.{cond_both}
 use Rattle.std.proofs.ByRecursion.{All-weaker}
@@ -9,11 +9,11 @@ use Rattle.qbf.specs.Clauses.{Rising}
 use Rattle.sets.specs.Ordered.{placed, clause_of}
 use Rattle.sets.specs.Laws.{ClauseMembers}
 
-all_placed : (P : ℕ → Type 0) (x : ℕ) (c : List ℕ) → P x → All P c → All P (placed x c)
+all_placed : (P : ℕ → Type 0) (x : ℕ) (c : List ℕ) → P x → AllByRecursion P c → AllByRecursion P (placed x c)
 all_placed P x [] p a = (p, tt)
 all_placed P x (y ∷ c) p a =
     let ih = all_placed P x c p a.1 in
-    cond_both (ltb x y) _ _ (All P) (λ _. (p, a)) (λ _. cond_both (eqb x y) _ _ (All P) (λ _. a) (λ _. (a.0, ih)))
+    cond_both (ltb x y) _ _ (AllByRecursion P) (λ _. (p, a)) (λ _. cond_both (eqb x y) _ _ (AllByRecursion P) (λ _. a) (λ _. (a.0, ih)))
 
 rising_placed : (x : ℕ) (c : List ℕ) → Rising c → Rising (placed x c)
 rising_placed x [] r = (tt, tt)
@@ -45,7 +45,7 @@ clause_members (y ∷ c) =
 pub rising_clause : (c : List ℕ) → Rising (clause_of c)
 rising_clause c = (clause_members c).0
 
-pub all_clause : (P : ℕ → Type 0) (c : List ℕ) → All P c → All P (clause_of c)
+pub all_clause : (P : ℕ → Type 0) (c : List ℕ) → AllByRecursion P c → AllByRecursion P (clause_of c)
 all_clause P [] a = tt
 all_clause P (x ∷ c) a = all_placed P x (clause_of c) a.0 (all_clause P c a.1)
 

@@ -1,6 +1,6 @@
 -- Literals in a clause, and elements of a list.
 use Rattle.std.proofs.Common.{◌≡◌, ℕ, ◌<◌, ◌≤◌, Bool, true, false, eqb, List, [], ◌∷◌, map, filter, sym, refl, ap, subst, inl, inr, arith}
-use Rattle.std.specs.List.{AllByRecursion as All}
+use Rattle.std.specs.List.{AllByRecursion}
 use Rattle.std.proofs.lemmas.Bool.Decides.{nat_tests}
 use Rattle.std.proofs.lemmas.Bool.{cond_both}
 use Rattle.qbf.specs.Lists.{In, mem, without}
@@ -26,19 +26,19 @@ without_absent l [] e = refl
 without_absent l (x ∷ c) e = let ih = without_absent l c in grind (arith, nat_tests)
 
 -- a code below all others is not among them
-pub above_absent : (m x : ℕ) (c : List ℕ) → m ≤ x → All (λ y. x < y) c → mem m c ≡ false
+pub above_absent : (m x : ℕ) (c : List ℕ) → m ≤ x → AllByRecursion (λ y. x < y) c → mem m c ≡ false
 above_absent m x [] h a = refl
 above_absent m x (y ∷ c) h a = let ih = above_absent m x c h a.1 in grind (arith, nat_tests)
 
-pub all_without : (P : ℕ → Type 0) (m : ℕ) (c : List ℕ) → All P c → All P (without m c)
+pub all_without : (P : ℕ → Type 0) (m : ℕ) (c : List ℕ) → AllByRecursion P c → AllByRecursion P (without m c)
 all_without P m [] h = tt
-all_without P m (x ∷ c) h = let ih = all_without P m c h.1 in cond_both (eqb m x) _ _ (All P) (λ e. ih) (λ e. (h.0, ih))
+all_without P m (x ∷ c) h = let ih = all_without P m c h.1 in cond_both (eqb m x) _ _ (AllByRecursion P) (λ e. ih) (λ e. (h.0, ih))
 
 pub rising_without : (m : ℕ) (c : List ℕ) → Rising c → Rising (without m c)
 rising_without m [] h = tt
 rising_without m (x ∷ c) h = let ih = rising_without m c h.1 in cond_both (eqb m x) _ _ Rising (λ e. ih) (λ e. (all_without (λ y. x < y) m c h.0, ih))
 
-pub all_in : {A : Type 0} (P : A → Type 0) (s : List A) (x : A) → All P s → In x s → P x
+pub all_in : {A : Type 0} (P : A → Type 0) (s : List A) (x : A) → AllByRecursion P s → In x s → P x
 all_in P [] x a h = absurd h
 all_in P (y ∷ s) x a (inl e) = subst P (sym e) a.0
 all_in P (y ∷ s) x a (inr h) = all_in P s x a.1 h

@@ -1,6 +1,6 @@
 -- The set of clauses that are stored one after the other.
 use Rattle.std.specs.Prelude.{◌≡◌, ℕ, ◌≤◌, ◌↔◌, List, [], ◌∷◌, length}
-use Rattle.std.specs.List.{AllByRecursion as All}
+use Rattle.std.specs.List.{AllByRecursion}
 use Rattle.qbf.specs.Lists.{In}
 use Rattle.qbf.specs.Clauses.{Canonical, union}
 use Rattle.sets.specs.Ordered.{clause_of}
@@ -19,7 +19,7 @@ forming s (c ∷ cs) = (clause_of c ∷ []) ∷ union (clause_of c ∷ []) s ∷
 pub record FormedLaws (cs : List (List ℕ)) : Type 0 where
   -- every set made has the one form
   pub canonical : Canonical (formed [] cs)
-  pub steps_canonical : All Canonical (forming [] cs)
+  pub steps_canonical : AllByRecursion Canonical (forming [] cs)
   -- the clauses of the set are the stored ones, with their codes in order
   pub members : (d : List ℕ) → In d (formed [] cs) ↔ ((c : List ℕ) × In c cs × (d ≡ clause_of c))
   pub few : length (formed [] cs) ≤ length cs

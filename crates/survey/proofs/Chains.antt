@@ -1,6 +1,6 @@
 -- The chain of a set's without-sides.
 use Rattle.std.proofs.Common.{◌≡◌, ℕ, ◌<◌, Bool, true, false, eqb, ◌⊎◌, List, [], ◌∷◌, length, get_or, set, replicate, Decides, sym, refl, ap, ◌∙◌, subst, inl, inr, arith}
-use Rattle.std.specs.List.{AllByRecursion as All}
+use Rattle.std.specs.List.{AllByRecursion}
 use Rattle.std.proofs.lemmas.Bool.Decides.{nat_tests}
 use Rattle.std.proofs.lemmas.Bool.{cases_eq}
 use Rattle.std.proofs.lemmas.List.{length-set, get_or-set_same, get_or-set_other, get_or-replicate}
@@ -97,6 +97,6 @@ found_end t n at m two f l low = (
   λ e. f.back l low (inl e),
   λ i. elim (f.there l low i) [
     | inl e ↦ e
-    | inr j ↦ absurd (let own : All (λ y. l < y) (l ∷ []) = all_in (All (λ y. l < y)) (clauses t m) (l ∷ []) (small_over t m l two) j in let no : ⊥ = omega (arith, own.0) in no)
+    | inr j ↦ absurd (let own : AllByRecursion (λ y. l < y) (l ∷ []) = all_in (AllByRecursion (λ y. l < y)) (clauses t m) (l ∷ []) (small_over t m l two) j in let no : ⊥ = omega (arith, own.0) in no)
   ],
 )

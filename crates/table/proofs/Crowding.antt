@@ -1,6 +1,6 @@
 -- A full table that lacks a node is too small for the sets that its nodes are of.
 use Rattle.std.proofs.Common.{◌≡◌, ℕ, zero, suc, ◌+◌, ◌<◌, ◌≤◌, List, [], ◌∷◌, length, sym, refl, ap, subst, inl, inr, arith}
-use Rattle.std.specs.List.{AllByRecursion as All}
+use Rattle.std.specs.List.{AllByRecursion}
 use Rattle.std.proofs.lemmas.Bool.{cases_lt}
 use Rattle.qbf.specs.Lists.{In, Distinct}
 use Rattle.qbf.specs.Nodes.{Node as NodeOf}
@@ -20,7 +20,7 @@ long t zero = refl
 long t (suc k) = ap suc (long t k)
 
 -- what holds of each node's set holds of all of them
-each : (t : Table) (P : List (List ℕ) → Type 0) (k : ℕ) → ((n : ℕ) → 2 ≤ n → n < k + 2 → P (clauses t n)) → All P (stored t k)
+each : (t : Table) (P : List (List ℕ) → Type 0) (k : ℕ) → ((n : ℕ) → 2 ≤ n → n < k + 2 → P (clauses t n)) → AllByRecursion P (stored t k)
 unfolding stored
 each t P zero h = tt
 each t P (suc k) h = (h (k + 2) (omega arith) (omega arith), each t P k (λ n l i. h n l (omega arith)))

@@ -1,6 +1,6 @@
 -- The making of one set after another.
 use Rattle.std.proofs.Common.{ℕ, List, [], ◌∷◌, ◌++◌, Ok, Err, Result, sym, refl, ap, ◌∙◌, subst, inl, inr, append_assoc}
-use Rattle.std.specs.List.{AllByRecursion as All}
+use Rattle.std.specs.List.{AllByRecursion}
 use Rattle.std.proofs.ByRecursion.{All-append, All-weaker}
 use Rattle.qbf.specs.Lists.{In}
 use Rattle.table.specs.declared.table.Full.{Full}
@@ -26,7 +26,7 @@ within_right sets more x s i n = (s, in_right s sets more i, n)
 pub adds_append : (t : Table) (sets : List (List (List ℕ))) (u : Table) (more : List (List (List ℕ))) (w : Table) → Adds t sets u → Adds u more w → Adds t (sets ++ more) w
 adds_append t sets u more w g h = adds_then t (sets ++ more) u w (adds_widen t sets u (sets ++ more) (within_left sets more) g) (adds_widen u more w (sets ++ more) (within_right sets more) h)
 
-all_kept : (t : Table) (sets : List (List (List ℕ))) (u : Table) → Adds t sets u → (held : List (List (List ℕ))) → All (Held t) held → All (Held u) held
+all_kept : (t : Table) (sets : List (List (List ℕ))) (u : Table) → Adds t sets u → (held : List (List (List ℕ))) → AllByRecursion (Held t) held → AllByRecursion (Held u) held
 all_kept t sets u g held a = All-weaker (Held t) (Held u) (held_kept t sets u g) held a
 
 pub made_none : (t : Table) → Made t [] t

@@ -1,6 +1,6 @@
 -- Tables: what the numbers stand for, and how a table grows.
 use Rattle.std.proofs.Common.{◌≡◌, ℕ, zero, suc, ◌+◌, ◌-◌, ◌<◌, ◌≤◌, List, [], ◌∷◌, sym, refl, ap, ◌∙◌, subst, inl, inr, arith}
-use Rattle.std.specs.List.{AllByRecursion as All}
+use Rattle.std.specs.List.{AllByRecursion}
 use Rattle.std.proofs.lemmas.Bool.{cases_eq}
 use Rattle.qbf.specs.Nodes.{Node as NodeOf, node_itself}
 use Rattle.sets.specs.Sides.{Over, joined}
@@ -60,21 +60,21 @@ opens t n held two =
       coded = t.coded (n - 2) at;
     }
 
-coded_joined : (k : ℕ) (hi lo : List (List ℕ)) → k < 512 → All (All (λ y. y < 512)) hi → All (All (λ y. y < 512)) lo → All (All (λ y. y < 512)) (joined k hi lo)
+coded_joined : (k : ℕ) (hi lo : List (List ℕ)) → k < 512 → AllByRecursion (AllByRecursion (λ y. y < 512)) hi → AllByRecursion (AllByRecursion (λ y. y < 512)) lo → AllByRecursion (AllByRecursion (λ y. y < 512)) (joined k hi lo)
 coded_joined k [] lo l a b = b
 coded_joined k (c ∷ hi) lo l a b = ((l, a.0), coded_joined k hi lo l a.1 b)
 
-coded_by : (t : Table) (b n : ℕ) → n < b → Number t n → All (All (λ y. y < 512)) (clauses t n)
+coded_by : (t : Table) (b n : ℕ) → n < b → Number t n → AllByRecursion (AllByRecursion (λ y. y < 512)) (clauses t n)
 coded_by t zero n l h = absurd (let no : ⊥ = omega arith in no)
 coded_by t (suc b) n l h =
     elim (cases_number n t.count h) [
-      | inl e ↦ subst (All (All (λ y. y < 512))) (sym (ap (clauses t) e ∙ (ends_stand t).0)) tt
+      | inl e ↦ subst (AllByRecursion (AllByRecursion (λ y. y < 512))) (sym (ap (clauses t) e ∙ (ends_stand t).0)) tt
       | inr rest ↦ elim rest [
-        | inl e ↦ subst (All (All (λ y. y < 512))) (sym (ap (clauses t) e ∙ (ends_stand t).1)) (tt, tt)
+        | inl e ↦ subst (AllByRecursion (AllByRecursion (λ y. y < 512))) (sym (ap (clauses t) e ∙ (ends_stand t).1)) (tt, tt)
         | inr q ↦ (
             let n_is : n ≡ q.0 + 2 = q.2 in
             let o = opens t n h (omega arith) in
-            subst (All (All (λ y. y < 512))) (sym o.means)
+            subst (AllByRecursion (AllByRecursion (λ y. y < 512))) (sym o.means)
             (coded_joined (top t n).code (clauses t (top t n).with) (clauses t (top t n).without) o.coded (coded_by t b (top t n).with (omega (arith, o.with_less)) (omega (arith, o.with_less))) (coded_by t b (top t n).without (omega (arith, o.without_less)) (omega (arith, o.without_less)))))
       ]
     ]

@@ -1,7 +1,7 @@
 -- What holds of every table.
 use Rattle.std.specs.Prelude.{◌≡◌, ℕ, ◌-◌, ◌<◌, ◌≤◌, List, [], ◌∷◌}
 use Rattle.qbf.specs.Clauses.{Canonical}
-use Rattle.std.specs.List.{AllByRecursion as All}
+use Rattle.std.specs.List.{AllByRecursion}
 use Rattle.qbf.specs.Lists.{In}
 use Rattle.qbf.specs.Nodes.{Node as NodeOf, Crowded}
 use Rattle.table.specs.declared.table.Table.{Table}
@@ -18,7 +18,7 @@ SetsFormed = (t : Table) (n : ℕ) → Number t n → Canonical (clauses t n)
 
 -- every code in a set is one of the 512
 abbrev pub SetsCoded : Type 0
-SetsCoded = (t : Table) (n : ℕ) → Number t n → All (All (λ y. y < 512)) (clauses t n)
+SetsCoded = (t : Table) (n : ℕ) → Number t n → AllByRecursion (AllByRecursion (λ y. y < 512)) (clauses t n)
 
 -- two numbers that stand for the same set are the same number
 abbrev pub NumbersApart : Type 0

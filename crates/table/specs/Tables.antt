@@ -1,6 +1,6 @@
 -- What a table stands for, and how it grows.
 use Rattle.std.specs.Prelude.{◌≡◌, ℕ, ◌+◌, ◌<◌, ◌≤◌, List, [], ◌∷◌, ◌++◌, Result, MatchResult}
-use Rattle.std.specs.List.{AllByRecursion as All}
+use Rattle.std.specs.List.{AllByRecursion}
 use Rattle.qbf.specs.Lists.{In}
 use Rattle.qbf.specs.Nodes.{Node as NodeOf}
 use Rattle.sets.specs.Sides.{Over, joined}
@@ -47,7 +47,7 @@ pub record Makes (t : Table) (s : List (List ℕ)) (u : Table) (r : Result ℕ F
 -- the sets are all made: the table has them, and gained only nodes of theirs
 pub record Made (t : Table) (sets : List (List (List ℕ))) (u : Table) : Type 0 where
   pub grows : Adds t sets u
-  pub held : All (Held u) sets
+  pub held : AllByRecursion (Held u) sets
 
 -- the making of the sets, in order, ended at one that the table has no room for: those before it are made, and only nodes of those and of this one were gained
 pub record Stopped (t : Table) (sets : List (List (List ℕ))) (u : Table) : Type 0 where
@@ -56,7 +56,7 @@ pub record Stopped (t : Table) (sets : List (List (List ℕ))) (u : Table) : Typ
   pub after : List (List (List ℕ))
   pub order : sets ≡ before ++ (hand ∷ after)
   pub grows : Adds t (before ++ (hand ∷ [])) u
-  pub held : All (Held u) before
+  pub held : AllByRecursion (Held u) before
   pub misses : Misses hand u
 
 -- the making of the sets in order, where the answer is the number of the last, s

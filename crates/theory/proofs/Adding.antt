@@ -1,6 +1,6 @@
 -- Making sets by computing is making sets.
 use Rattle.std.proofs.Common.{◌≡◌, ℕ, suc, ◌+◌, ◌<◌, ◌≤◌, Bool, true, false, cond, ltb, List, [], ◌∷◌, ◌++◌, length, Some, sym, refl, ap, ◌∙◌, inl, inr, append_assoc, append-nil, arith, length-append}
-use Rattle.std.specs.List.{AllByRecursion as All}
+use Rattle.std.specs.List.{AllByRecursion}
 use Rattle.std.proofs.lemmas.Bool.Decides.{nat_tests, not_from_Decides}
 use Rattle.std.proofs.ByRecursion.{All-weaker}
 use Rattle.qbf.specs.Lists.{In, Distinct}
@@ -31,7 +31,7 @@ distinct_push (y ∷ t) x d n = (
 pub record Added (t : Numbering) (xs : List (List (List ℕ))) (a : Attempt) : Type 0 where
   pub new : Numbering
   pub joined : a.table ≡ t ++ new
-  pub from : All (λ x. In x xs) new
+  pub from : AllByRecursion (λ x. In x xs) new
   pub fit : Fit a.table
   pub whole : a.done ≡ true → (x : List (List ℕ)) → In x xs → In x a.table
   pub short : a.done ≡ false → (length a.table ≡ capacity) × (x : List (List ℕ)) × In x xs × (In x a.table → ⊥)

@@ -1,6 +1,6 @@
 -- The outermost block that occurs, and the candidates.
 use Rattle.std.proofs.Common.{◌≡◌, ℕ, suc, ◌-◌, ◌<◌, Bool, true, false, cond, ◌||◌, List, [], ◌∷◌, map, filter, sym, refl, ap, ◌∙◌, subst, inl, inr, arith}
-use Rattle.std.specs.List.{AllByRecursion as All}
+use Rattle.std.specs.List.{AllByRecursion}
 use Rattle.std.proofs.lemmas.Bool.Decides.{nat_tests}
 use Rattle.std.proofs.lemmas.Bool.{cases_Bool}
 use Rattle.qbf.specs.declared.Quantifier.{Quantifier}
@@ -113,25 +113,25 @@ none_kept : (xs : List ℕ) (s : List (List ℕ)) → filter (λ x. present x s)
 none_kept [] s e = refl
 none_kept (x ∷ xs) s e = let ih = none_kept xs s in elim (cases_Bool (present x s)) [ inl t ↦ grind (arith, nat_tests) | inr t ↦ grind (arith, nat_tests) ]
 
-none_blocks : (bs : List Block) (s : List (List ℕ)) → some_present (first_present bs s).variables s ≡ false → All (λ b. some_present b.variables s ≡ false) bs
+none_blocks : (bs : List Block) (s : List (List ℕ)) → some_present (first_present bs s).variables s ≡ false → AllByRecursion (λ b. some_present b.variables s ≡ false) bs
 none_blocks [] s e = tt
 none_blocks (b ∷ bs) s e = go (some_present b.variables s) refl e (none_blocks bs s)
   where
     go : (t : Bool) → some_present b.variables s ≡ t → some_present (cond t b (first_present bs s)).variables s ≡ false →
-        (some_present (first_present bs s).variables s ≡ false → All (λ b. some_present b.variables s ≡ false) bs) → All (λ b. some_present b.variables s ≡ false) (b ∷ bs)
+        (some_present (first_present bs s).variables s ≡ false → AllByRecursion (λ b. some_present b.variables s ≡ false) bs) → AllByRecursion (λ b. some_present b.variables s ≡ false) (b ∷ bs)
     go true f e ih = grind (arith, nat_tests)
     go false f e ih = (f, ih e)
 
-pub none_ahead : (q : Quantifier) (v : ℕ) (s : List (List ℕ)) (cs : List Block) → All (λ b. some_present b.variables s ≡ false) (ahead q v cs) → absent v s × All (λ b. some_present b.variables s ≡ false) cs
+pub none_ahead : (q : Quantifier) (v : ℕ) (s : List (List ℕ)) (cs : List Block) → AllByRecursion (λ b. some_present b.variables s ≡ false) (ahead q v cs) → absent v s × AllByRecursion (λ b. some_present b.variables s ≡ false) cs
 none_ahead q v s [] h = let f = h.0 in ((grind (arith, nat_tests), grind (arith, nat_tests)), tt)
 none_ahead q v s (c ∷ cs) h = joined (same q c.quantifier) h
   where
-    joined : (t : Bool) → All (λ b. some_present b.variables s ≡ false) (cond t (record { quantifier = q; variables = v ∷ c.variables } ∷ cs) (record { quantifier = q; variables = v ∷ [] } ∷ c ∷ cs)) →
-        absent v s × All (λ b. some_present b.variables s ≡ false) (c ∷ cs)
+    joined : (t : Bool) → AllByRecursion (λ b. some_present b.variables s ≡ false) (cond t (record { quantifier = q; variables = v ∷ c.variables } ∷ cs) (record { quantifier = q; variables = v ∷ [] } ∷ c ∷ cs)) →
+        absent v s × AllByRecursion (λ b. some_present b.variables s ≡ false) (c ∷ cs)
     joined true h = let f = h.0 in ((grind (arith, nat_tests), grind (arith, nat_tests)), (grind (arith, nat_tests), h.1))
     joined false h = let f = h.0 in ((grind (arith, nat_tests), grind (arith, nat_tests)), h.1)
 
-none_value : (qs : List Quantifier) (v : ℕ) (s : List (List ℕ)) → All (λ b. some_present b.variables s ≡ false) (blocks qs v) → value qs v s ≡ none s
+none_value : (qs : List Quantifier) (v : ℕ) (s : List (List ℕ)) → AllByRecursion (λ b. some_present b.variables s ≡ false) (blocks qs v) → value qs v s ≡ none s
 none_value [] v s h = refl
 none_value (q ∷ qs) v s h =
     let r = none_ahead q v s (blocks qs (suc v)) h in
@@ -142,7 +142,7 @@ map_none f [] e = refl
 map_none f (x ∷ xs) e = cc
 
 -- without a candidate, no block has a variable that occurs
-pub none_from : (prefix : List Quantifier) (s : List (List ℕ)) → candidates prefix s ≡ [] → All (λ b. some_present b.variables s ≡ false) (blocks prefix 0)
+pub none_from : (prefix : List Quantifier) (s : List (List ℕ)) → candidates prefix s ≡ [] → AllByRecursion (λ b. some_present b.variables s ≡ false) (blocks prefix 0)
 none_from prefix s e =
     let xs : List ℕ = (outermost prefix s).variables in
     none_blocks (blocks prefix 0) s (none_kept xs s (map_none (candidate s) (filter (λ x. present x s) xs) e))

@@ -1,6 +1,6 @@
 -- The nodes of sets, as a list.
 use Rattle.std.proofs.Common.{◌≡◌, ℕ, zero, suc, ◌<◌, ◌≤◌, Bool, eqb, ◌⊎◌, ◌↔◌, List, [], ◌∷◌, ◌++◌, length, Decides, sym, refl, ap, ◌∙◌, inl, inr, arith}
-use Rattle.std.specs.List.{AllByRecursion as All}
+use Rattle.std.specs.List.{AllByRecursion}
 use Rattle.std.proofs.lemmas.Bool.Decides.{nat_tests, Decides-eqb, Decides-or, not_from_Decides}
 use Rattle.std.proofs.lemmas.Bool.{cond_both}
 use Rattle.qbf.specs.Lists.{In, Distinct}
@@ -45,7 +45,7 @@ pub once_in : (x : List (List ℕ)) (ys : List (List (List ℕ))) → (In x (onc
 once_in x [] = (λ h. h, λ h. h)
 once_in x (y ∷ ys) = let ih = once_in x ys in let d = listed_in y ys in (grind (arith, nat_tests), grind (arith, nat_tests))
 
-pub all_from_in : {A : Type 0} (P : A → Type 0) (xs : List A) → ((x : A) → In x xs → P x) → All P xs
+pub all_from_in : {A : Type 0} (P : A → Type 0) (xs : List A) → ((x : A) → In x xs → P x) → AllByRecursion P xs
 all_from_in P [] h = tt
 all_from_in P (x ∷ xs) h = (h x (inl refl), all_from_in P xs (λ y i. h y (inr i)))
 

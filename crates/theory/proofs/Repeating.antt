@@ -1,6 +1,6 @@
 -- A verdict that is asked for again.
 use Rattle.std.proofs.Common.{◌≡◌, ℕ, zero, suc, Bool, false, List, [], ◌∷◌, ◌++◌, Some, None, Option, sym, refl, ap, ◌∙◌, subst, inl, inr, append_assoc, append-nil, arith}
-use Rattle.std.specs.List.{AllByRecursion as All}
+use Rattle.std.specs.List.{AllByRecursion}
 use Rattle.std.proofs.lemmas.Bool.Decides.{nat_tests}
 use Rattle.qbf.specs.declared.Quantifier.{Quantifier}
 use Rattle.qbf.specs.declared.Candidate.{Candidate}
@@ -99,7 +99,7 @@ nothing_new {t} {u} {sets} m h = go m.gains.added m.gains.joined m.gains.nodes
     twice (y ∷ ts) x rest d (inl e) = all_in (λ z. y ≡ z → ⊥) (ts ++ (x ∷ rest)) x d.0 (in_append_right x ts (x ∷ rest) (inl refl)) (sym e)
     twice (y ∷ ts) x rest d (inr i) = twice ts x rest d.1 i
 
-    go : (added : Numbering) → u ≡ t ++ added → All (Among sets) added → u ≡ t
+    go : (added : Numbering) → u ≡ t ++ added → AllByRecursion (Among sets) added → u ≡ t
     go [] e a = e ∙ append-nil t
     go (x ∷ added) e a =
         let d : Distinct (t ++ (x ∷ added)) = subst (λ (z : Numbering). Distinct z) e m.apart in

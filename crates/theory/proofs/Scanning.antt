@@ -1,6 +1,6 @@
 -- Blocks are longest runs, and the candidates are found by one look along the prefix.
 use Rattle.std.proofs.Common.{◌≡◌, ℕ, suc, ◌<◌, Bool, true, false, cond, List, [], ◌∷◌, ◌++◌, map, length, filter, sym, refl, ap, ◌∙◌, subst, arith}
-use Rattle.std.specs.List.{AllByRecursion as All}
+use Rattle.std.specs.List.{AllByRecursion}
 use Rattle.std.proofs.lemmas.Bool.Decides.{nat_tests}
 use Rattle.qbf.specs.declared.Quantifier.{Quantifier}
 use Rattle.qbf.specs.Reduce.{same}
@@ -21,11 +21,11 @@ ahead_all q v (c ∷ cs) = go (same q c.quantifier) refl
     go true e = ap (λ (p : Quantifier). (v, q) ∷ (map (λ x. (x, p)) c.variables ++ unrolled cs)) (same_is q c.quantifier e)
     go false e = refl
 
-ahead_filled : (q : Quantifier) (v : ℕ) (cs : List Block) → All (λ b. 0 < length b.variables) cs → All (λ b. 0 < length b.variables) (ahead q v cs)
+ahead_filled : (q : Quantifier) (v : ℕ) (cs : List Block) → AllByRecursion (λ b. 0 < length b.variables) cs → AllByRecursion (λ b. 0 < length b.variables) (ahead q v cs)
 ahead_filled q v [] h = (omega arith, tt)
 ahead_filled q v (c ∷ cs) h = go (same q c.quantifier)
   where
-    go : (t : Bool) → All (λ b. 0 < length b.variables) (cond t (record { quantifier = q; variables = v ∷ c.variables } ∷ cs) (record { quantifier = q; variables = v ∷ [] } ∷ c ∷ cs))
+    go : (t : Bool) → AllByRecursion (λ b. 0 < length b.variables) (cond t (record { quantifier = q; variables = v ∷ c.variables } ∷ cs) (record { quantifier = q; variables = v ∷ [] } ∷ c ∷ cs))
     go true = (omega arith, h.1)
     go false = (omega arith, h)
 

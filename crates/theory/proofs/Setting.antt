@@ -1,6 +1,6 @@
 -- Setting a literal by four sets is setting it clause by clause.
 use Rattle.std.proofs.Common.{◌≡◌, ℕ, Bool, true, false, cond, List, [], ◌∷◌, sym, refl, subst, inl, inr, arith}
-use Rattle.std.specs.List.{AllByRecursion as All}
+use Rattle.std.specs.List.{AllByRecursion}
 use Rattle.std.proofs.lemmas.Bool.Decides.{nat_tests}
 use Rattle.qbf.specs.declared.Quantifier.{Quantifier}
 use Rattle.qbf.specs.Literals.{complement}
@@ -41,7 +41,7 @@ module _ (l : ℕ) (s : List (List ℕ)) where
   value_assigned_set qs v = value_as_set qs v (assigned l s) (assign l s) assigned_less assigned_more
 
 -- the sets that a setting makes keep the one form
-pub setting_canonical : (l : ℕ) (s : List (List ℕ)) → Canonical s → All Canonical (setting l s)
+pub setting_canonical : (l : ℕ) (s : List (List ℕ)) → Canonical s → AllByRecursion Canonical (setting l s)
 setting_canonical l s h =
     let one = forms_stay l s s h h in
     let two = forms_stay (complement l) (lacking l s) s one.in_lacking h in

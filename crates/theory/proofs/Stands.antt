@@ -1,6 +1,6 @@
 -- The theorems as they are stated.
 use Rattle.std.proofs.Common.{◌≡◌, ℕ, suc, ◌+◌, ◌*◌, ◌/◌, ◌<◌, ◌≤◌, true, false, not, List, [], ◌∷◌, length, refl, inl, inr, arith}
-use Rattle.std.specs.List.{AllByRecursion as All}
+use Rattle.std.specs.List.{AllByRecursion}
 use Rattle.std.proofs.lemmas.Bool.Decides.{nat_tests}
 use Rattle.std.proofs.lemmas.Bool.{cases_eq, cases_Bool}
 use Rattle.std.proofs.ByRecursion.{all_kept_by, All-map, All-weaker}
@@ -35,10 +35,10 @@ reducing_canonical prefix s t c e = reduces_canonical prefix (reduced_to prefix 
 -- a setting brings no variable in
 pub within_assigned : (prefix : List Quantifier) (l : ℕ) (s : List (List ℕ)) → Within prefix s → Within prefix (assigned l s)
 within_assigned prefix l s h =
-    let P : List ℕ → Type 0 = All (λ x. x < 2 * length prefix) in
+    let P : List ℕ → Type 0 = AllByRecursion (λ x. x < 2 * length prefix) in
     let m : ℕ = complement l in
-    let a : All P (lacking l s) = all_kept_by (λ c. not (mem l c)) P s h in
-    let b : All P (holding m (lacking l s)) = all_kept_by (mem m) P (lacking l s) a in
+    let a : AllByRecursion P (lacking l s) = all_kept_by (λ c. not (mem l c)) P s h in
+    let b : AllByRecursion P (holding m (lacking l s)) = all_kept_by (mem m) P (lacking l s) a in
     all_union P (taken_out m (lacking l s)) (lacking m (lacking l s))
     (All-map P (without m) (holding m (lacking l s)) (All-weaker P (λ c. P (without m c)) (λ c. all_without (λ x. x < 2 * length prefix) m c) (holding m (lacking l s)) b))
     (all_kept_by (λ c. not (mem m c)) P (lacking l s) a)
@@ -51,10 +51,10 @@ reduces_within {prefix} (r_forced {s} {l} e r) h = reduces_within r (within_assi
 occurs_within : (prefix : List Quantifier) (s : List (List ℕ)) (l : ℕ) → Within prefix s → occurs l s ≡ true → l < 2 * length prefix
 occurs_within prefix s l h e =
     let r = occurs_in l s e in
-    all_in (λ x. x < 2 * length prefix) r.0 l (all_in (All (λ x. x < 2 * length prefix)) s r.0 h r.1) (mem_in l r.0 r.2)
+    all_in (λ x. x < 2 * length prefix) r.0 l (all_in (AllByRecursion (λ x. x < 2 * length prefix)) s r.0 h r.1) (mem_in l r.0 r.2)
 
 unit_within : (prefix : List Quantifier) (s : List (List ℕ)) (l : ℕ) → Within prefix s → has_unit l s ≡ true → l < 2 * length prefix
-unit_within prefix s l h e = (all_in (All (λ x. x < 2 * length prefix)) s (l ∷ []) h (unit_from l s e)).0
+unit_within prefix s l h e = (all_in (AllByRecursion (λ x. x < 2 * length prefix)) s (l ∷ []) h (unit_from l s e)).0
 
 pub clean_from : (prefix : List Quantifier) (t : List (List ℕ)) → Within prefix t → {st : Step} → Rule prefix t st → st ≡ stuck → Clean t
 clean_from prefix t h (by_empty e) i = absurd (let z : ◌≡◌ {A = ℕ} 0 1 = cc in omega arith)
@@ -88,7 +88,7 @@ reducing_cleans prefix s t h e =
     (w, clean_from prefix t w (step_rule prefix t) (reduces_stuck prefix r))
 
 -- if no block has a variable that occurs, no variable of the prefix does
-none_absent : (qs : List Quantifier) (v x : ℕ) (s : List (List ℕ)) → All (λ b. some_present b.variables s ≡ false) (blocks qs v) → v ≤ x → x < v + length qs → present x s ≡ false
+none_absent : (qs : List Quantifier) (v x : ℕ) (s : List (List ℕ)) → AllByRecursion (λ b. some_present b.variables s ≡ false) (blocks qs v) → v ≤ x → x < v + length qs → present x s ≡ false
 none_absent [] v x s h a b = absurd (omega arith)
 none_absent (q ∷ qs) v x s h a b =
     let r = none_ahead q v s (blocks qs (suc v)) h in

@@ -1,6 +1,6 @@
 -- Blocks are the longest runs of prefix neighbours with one quantifier, and the candidates are found by one look along the prefix.
 use Rattle.std.specs.Prelude.{◌≡◌, ℕ, suc, ◌<◌, cond, List, [], ◌∷◌, ◌++◌, map, length, ◌≢◌}
-use Rattle.std.specs.List.{AllByRecursion as All}
+use Rattle.std.specs.List.{AllByRecursion}
 use Rattle.qbf.specs.declared.Quantifier.{Quantifier}
 use Rattle.qbf.specs.declared.Quantifier.TheVariants.{Existential}
 use Rattle.qbf.specs.Reduce.{same}
@@ -24,7 +24,7 @@ Alternate (b ∷ c ∷ bs) = (b.quantifier ≢ c.quantifier) × Alternate (c ∷
 
 pub record Runs (prefix : List Quantifier) (v : ℕ) : Type 0 where
   pub all : unrolled (blocks prefix v) ≡ numbered prefix v
-  pub filled : All (λ b. 0 < length b.variables) (blocks prefix v)
+  pub filled : AllByRecursion (λ b. 0 < length b.variables) (blocks prefix v)
   pub longest : Alternate (blocks prefix v)
 
 abbrev pub BlocksRun : Type 0

@@ -2,7 +2,7 @@
 use Rattle.std.proofs.Common.{◌≡◌, ℕ, ◌+◌, Bool, true, false, eqb, List, [], ◌∷◌, ◌++◌, length, Some, None, Option, sym, refl, ap, ◌∙◌, subst, add-zero, arith}
 use Rattle.std.proofs.lemmas.Bool.{eqb-true, eqb-false}
 use Rattle.std.proofs.lemmas.Bool.Decides.{nat_tests}
-use Rattle.std.specs.List.{AllByRecursion as All}
+use Rattle.std.specs.List.{AllByRecursion}
 use Rattle.words.specs.declared.scanner.Kind.TheVariants.{Space, Ink}
 use Rattle.words.specs.declared.scanner.Line.{Line}
 use Rattle.words.specs.declared.scanner.Line.TheVariants.{Start, Blank, Comment}
@@ -39,20 +39,20 @@ start_bare : Bare Start
 start_bare e = let z : ◌≡◌ {A = ℕ} 0 1 = cc in omega arith
 
 -- a comment up to its line end, or to the text's end
-past_comment : (off : ℕ) (line rest : List ℕ) → All (λ b. b ≡ 10 → ⊥) line → scan (ahead Comment) off (line ++ 10 ∷ rest) ≡ scan (ahead Start) (off + length line + 1) rest
+past_comment : (off : ℕ) (line rest : List ℕ) → AllByRecursion (λ b. b ≡ 10 → ⊥) line → scan (ahead Comment) off (line ++ 10 ∷ rest) ≡ scan (ahead Start) (off + length line + 1) rest
 past_comment off [] rest h = ap (λ (n : ℕ). scan (ahead Start) (n + 1) rest) (sym (add-zero off))
 past_comment off (b ∷ line) rest h = onto Comment off b (line ++ 10 ∷ rest) (Some Comment) (in_comment b h.0) ∙ past_comment (off + 1) line rest h.1 ∙ ap (λ (n : ℕ). scan (ahead Start) n rest) (omega arith)
 
-comment_ends : (off : ℕ) (line : List ℕ) → All (λ b. b ≡ 10 → ⊥) line → scan (ahead Comment) off line ≡ []
+comment_ends : (off : ℕ) (line : List ℕ) → AllByRecursion (λ b. b ≡ 10 → ⊥) line → scan (ahead Comment) off line ≡ []
 comment_ends off [] h = refl
 comment_ends off (b ∷ line) h = onto Comment off b line (Some Comment) (in_comment b h.0) ∙ comment_ends (off + 1) line h.1
 
 -- spaces up to a line end, or to the text's end
-past_blank : (l : Line) → Bare l → (off : ℕ) (spaces rest : List ℕ) → All (λ b. b ≡ 32) spaces → scan (ahead l) off (spaces ++ 10 ∷ rest) ≡ scan (ahead Start) (off + length spaces + 1) rest
+past_blank : (l : Line) → Bare l → (off : ℕ) (spaces rest : List ℕ) → AllByRecursion (λ b. b ≡ 32) spaces → scan (ahead l) off (spaces ++ 10 ∷ rest) ≡ scan (ahead Start) (off + length spaces + 1) rest
 past_blank l bare off [] rest h = onto l off 10 rest (Some Start) (on_line_end l) ∙ ap (λ (n : ℕ). scan (ahead Start) (n + 1) rest) (sym (add-zero off))
 past_blank l bare off (b ∷ spaces) rest h = onto l off b (spaces ++ 10 ∷ rest) (Some Blank) (ap (onward l) h.0 ∙ on_space l bare) ∙ past_blank Blank blank_bare (off + 1) spaces rest h.1 ∙ ap (λ (n : ℕ). scan (ahead Start) n rest) (omega arith)
 
-blank_ends : (l : Line) → Bare l → (off : ℕ) (spaces : List ℕ) → All (λ b. b ≡ 32) spaces → scan (ahead l) off spaces ≡ []
+blank_ends : (l : Line) → Bare l → (off : ℕ) (spaces : List ℕ) → AllByRecursion (λ b. b ≡ 32) spaces → scan (ahead l) off spaces ≡ []
 blank_ends l bare off [] h = refl
 blank_ends l bare off (b ∷ spaces) h = onto l off b spaces (Some Blank) (ap (onward l) h.0 ∙ on_space l bare) ∙ blank_ends Blank blank_bare (off + 1) spaces h.1
 
@@ -62,7 +62,7 @@ begins Start bare b e h = let n : b ≡ 99 → ⊥ = h refl in grind (arith, nat
 begins Blank bare b e h = grind (arith, nat_tests)
 begins Comment bare b e h = absurd (bare refl)
 
-in_body : (l : Line) → Bare l → (off : ℕ) (spaces : List ℕ) (b : ℕ) (rest : List ℕ) → All (λ b. b ≡ 32) spaces → kind b ≡ Ink → (l ≡ Start → length spaces ≡ 0 → b ≡ 99 → ⊥) → scan (ahead l) off (spaces ++ b ∷ rest) ≡ scan (gapped true) off (spaces ++ b ∷ rest)
+in_body : (l : Line) → Bare l → (off : ℕ) (spaces : List ℕ) (b : ℕ) (rest : List ℕ) → AllByRecursion (λ b. b ≡ 32) spaces → kind b ≡ Ink → (l ≡ Start → length spaces ≡ 0 → b ≡ 99 → ⊥) → scan (ahead l) off (spaces ++ b ∷ rest) ≡ scan (gapped true) off (spaces ++ b ∷ rest)
 in_body l bare off [] b rest h ink other = onto l off b rest None (begins l bare b ink (λ e. other e refl)) ∙ sym (at_kind (gapped true) off b rest Ink ink)
 in_body l bare off (s ∷ spaces) b rest h ink other =
     onto l off s (spaces ++ b ∷ rest) (Some Blank) (ap (onward l) h.0 ∙ on_space l bare)
@@ -81,14 +81,14 @@ Found bs = (off : ℕ) → Words off bs (scan (ahead Start) off bs)
 
 -- what a text is after spaces at the start of a line
 data Spaced : List ℕ → Type 0 where
-  bare : {spaces : List ℕ} → All (λ b. b ≡ 32) spaces → Spaced spaces
-  ended : (spaces rest : List ℕ) → All (λ b. b ≡ 32) spaces → Found rest → Spaced (spaces ++ 10 ∷ rest)
-  inked : (spaces : List ℕ) (b : ℕ) (rest : List ℕ) → All (λ b. b ≡ 32) spaces → kind b ≡ Ink → Spaced (spaces ++ b ∷ rest)
+  bare : {spaces : List ℕ} → AllByRecursion (λ b. b ≡ 32) spaces → Spaced spaces
+  ended : (spaces rest : List ℕ) → AllByRecursion (λ b. b ≡ 32) spaces → Found rest → Spaced (spaces ++ 10 ∷ rest)
+  inked : (spaces : List ℕ) (b : ℕ) (rest : List ℕ) → AllByRecursion (λ b. b ≡ 32) spaces → kind b ≡ Ink → Spaced (spaces ++ b ∷ rest)
 
 -- and within a comment
 data Remarked : List ℕ → Type 0 where
-  open_ended : {line : List ℕ} → All (λ b. b ≡ 10 → ⊥) line → Remarked line
-  ended : (line rest : List ℕ) → All (λ b. b ≡ 10 → ⊥) line → Found rest → Remarked (line ++ 10 ∷ rest)
+  open_ended : {line : List ℕ} → AllByRecursion (λ b. b ≡ 10 → ⊥) line → Remarked line
+  ended : (line rest : List ℕ) → AllByRecursion (λ b. b ≡ 10 → ⊥) line → Found rest → Remarked (line ++ 10 ∷ rest)
 
 more_spaces : {bs : List ℕ} → Spaced bs → Spaced (32 ∷ bs)
 more_spaces (bare {spaces} h) = bare (refl, h)
@@ -99,10 +99,10 @@ more_remark : {bs : List ℕ} (b : ℕ) → (b ≡ 10 → ⊥) → Remarked bs �
 more_remark b n (open_ended h) = open_ended (n, h)
 more_remark b n (ended line rest h later) = ended (b ∷ line) rest (n, h) later
 
-found_blank : (spaces rest : List ℕ) → All (λ b. b ≡ 32) spaces → Found rest → Found (spaces ++ 10 ∷ rest)
+found_blank : (spaces rest : List ℕ) → AllByRecursion (λ b. b ≡ 32) spaces → Found rest → Found (spaces ++ 10 ∷ rest)
 found_blank spaces rest h later off = subst (Words off (spaces ++ 10 ∷ rest)) (sym (past_blank Start start_bare off spaces rest h)) (blank spaces rest h (later (off + length spaces + 1)))
 
-found_body : (spaces : List ℕ) (b : ℕ) (rest : List ℕ) → All (λ b. b ≡ 32) spaces → kind b ≡ Ink → (length spaces ≡ 0 → b ≡ 99 → ⊥) → Found (spaces ++ b ∷ rest)
+found_body : (spaces : List ℕ) (b : ℕ) (rest : List ℕ) → AllByRecursion (λ b. b ≡ 32) spaces → kind b ≡ Ink → (length spaces ≡ 0 → b ≡ 99 → ⊥) → Found (spaces ++ b ∷ rest)
 found_body spaces b rest h ink other off = subst (Words off (spaces ++ b ∷ rest)) (sym (in_body Start start_bare off spaces b rest h ink (λ _. other))) (body spaces b rest h ink other (exist (spaces ++ b ∷ rest) off true))
 
 found_spaced : {bs : List ℕ} → Spaced bs → Found (32 ∷ bs)

@@ -1,7 +1,7 @@
 -- Where the words of a text stand, and how many there can be.
 use Rattle.std.proofs.Common.{◌≡◌, ℕ, ◌+◌, ◌*◌, ◌<◌, ◌≤◌, Bool, List, [], ◌∷◌, ◌++◌, length, take, drop, sym, refl, ap, ◌∙◌, append_assoc, arith, length-append}
 use Rattle.std.proofs.lemmas.List.{take_at, drop_at}
-use Rattle.std.specs.List.{AllByRecursion as All}
+use Rattle.std.specs.List.{AllByRecursion}
 use Rattle.words.specs.declared.scanner.Kind.TheVariants.{Ink}
 use Rattle.words.specs.Words.{kind, Token, words_of}
 use Rattle.words.specs.Split.{Cut, Runs, Words, Rising, WordsStand}
@@ -12,7 +12,7 @@ use Rattle.words.proofs.Openings.{are, only}
 -- words that stand in the text, in order, from an offset on
 record Placed (text : List ℕ) (from : ℕ) (ws : List Token) : Type 0 where
   rise : Rising from (length text) ws
-  stand : All (λ w. take (length w.bytes) (drop w.at text) ≡ w.bytes) ws
+  stand : AllByRecursion (λ w. take (length w.bytes) (drop w.at text) ≡ w.bytes) ws
 
 -- a part of the text is passed
 on : (text pre xs ys : List ℕ) → text ≡ pre ++ (xs ++ ys) → text ≡ (pre ++ xs) ++ ys
@@ -43,7 +43,7 @@ words_stand_lem text =
     let p = placed (are text) text [] 0 refl refl (omega arith) in
     record { are = are text; only = λ ws h. only h; rise = p.rise; stand = p.stand }
 
-uncut : (w rest : List ℕ) → 0 < length w → All (λ b. kind b ≡ Ink) w → Cut (w ++ rest) → ⊥
+uncut : (w rest : List ℕ) → 0 < length w → AllByRecursion (λ b. kind b ≡ Ink) w → Cut (w ++ rest) → ⊥
 uncut [] rest some ink cut = absurd (omega arith)
 uncut (b ∷ w) rest some ink cut = cut ink.0
 

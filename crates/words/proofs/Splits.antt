@@ -1,6 +1,6 @@
 -- Where no comment stands, the scan gives the words as they are declared, and no others.
 use Rattle.std.proofs.Common.{◌≡◌, ℕ, ◌+◌, ◌<◌, Bool, true, false, List, [], ◌∷◌, ◌++◌, length, sym, refl, ap, ◌∙◌, subst, append_assoc, append-nil, add-zero, arith}
-use Rattle.std.specs.List.{AllByRecursion as All}
+use Rattle.std.specs.List.{AllByRecursion}
 use Rattle.words.specs.declared.scanner.Kind.{Kind}
 use Rattle.words.specs.declared.scanner.Kind.TheVariants.{Space, LineEnd, Ink}
 use Rattle.words.specs.Words.{kind, Token, Mode, scan, step, emit}
@@ -12,7 +12,7 @@ pub at_kind : (m : Mode) (off b : ℕ) (bs : List ℕ) (k : Kind) → kind b ≡
 at_kind m off b bs k e = subst (λ (j : Kind). scan m off (b ∷ bs) ≡ emit m j ++ scan (step m j off b) (off + 1) bs) e refl
 
 -- a word goes on through ink
-through : (a : ℕ) (acc : List ℕ) (f : Bool) (off : ℕ) (w rest : List ℕ) → All (λ b. kind b ≡ Ink) w → scan (running a acc f) off (w ++ rest) ≡ scan (running a (acc ++ w) f) (off + length w) rest
+through : (a : ℕ) (acc : List ℕ) (f : Bool) (off : ℕ) (w rest : List ℕ) → AllByRecursion (λ b. kind b ≡ Ink) w → scan (running a acc f) off (w ++ rest) ≡ scan (running a (acc ++ w) f) (off + length w) rest
 through a acc f off [] rest h = ap (λ (l : List ℕ). scan (running a l f) off rest) (sym (append-nil acc)) ∙ ap (λ (n : ℕ). scan (running a (acc ++ []) f) n rest) (sym (add-zero off))
 through a acc f off (b ∷ w) rest h =
     at_kind (running a acc f) off b (w ++ rest) Ink h.0
@@ -30,7 +30,7 @@ ends a acc f off (b ∷ bs) h = on (kind b) refl
     on Space e = at_kind (running a acc f) off b bs Space e ∙ ap (λ (l : List Token). record { at = a; bytes = acc; first = f } ∷ l) (sym (at_kind (gapped false) off b bs Space e))
     on LineEnd e = at_kind (running a acc f) off b bs LineEnd e ∙ ap (λ (l : List Token). record { at = a; bytes = acc; first = f } ∷ l) (sym (at_kind (gapped false) off b bs LineEnd e))
 
-pub one : (f : Bool) (off : ℕ) (w rest : List ℕ) → 0 < length w → All (λ b. kind b ≡ Ink) w → Cut rest → scan (gapped f) off (w ++ rest) ≡ record { at = off; bytes = w; first = f } ∷ scan (gapped false) (off + length w) rest
+pub one : (f : Bool) (off : ℕ) (w rest : List ℕ) → 0 < length w → AllByRecursion (λ b. kind b ≡ Ink) w → Cut rest → scan (gapped f) off (w ++ rest) ≡ record { at = off; bytes = w; first = f } ∷ scan (gapped false) (off + length w) rest
 one f off [] rest some h cut = absurd (omega arith)
 one f off (b ∷ w) rest some h cut =
     at_kind (gapped f) off b (w ++ rest) Ink h.0
@@ -49,7 +49,7 @@ record Front (bs : List ℕ) : Type 0 where
   w : List ℕ
   rest : List ℕ
   whole : bs ≡ w ++ rest
-  ink : All (λ b. kind b ≡ Ink) w
+  ink : AllByRecursion (λ b. kind b ≡ Ink) w
   cut : Cut rest
   left : (off : ℕ) (f : Bool) → Runs off f rest (scan (gapped f) off rest)
 

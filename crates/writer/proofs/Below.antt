@@ -1,6 +1,6 @@
 -- The clauses below a path, by the two sides of a set.
 use Rattle.std.proofs.Common.{◌≡◌, ℕ, ◌+◌, ◌-◌, ◌<◌, ◌≤◌, List, [], ◌∷◌, ◌++◌, length, take, sym, refl, ap, ◌∙◌, subst, inl, inr, append_assoc, append-nil, arith}
-use Rattle.std.specs.List.{AllByRecursion as All}
+use Rattle.std.specs.List.{AllByRecursion}
 use Rattle.std.proofs.ByRecursion.{All-push, All-weaker}
 use Rattle.std.proofs.lemmas.List.{length_push, take_at}
 use Rattle.std.proofs.lemmas.Bool.{cases_eq}
@@ -33,7 +33,7 @@ one_line t n prefix path codes e same =
 
 -- a set by its sides
 
-all_sides : (P : ℕ → Type 0) (k : ℕ) (hi lo : List (List ℕ)) → All (All P) (joined k hi lo) → All (All P) hi × All (All P) lo
+all_sides : (P : ℕ → Type 0) (k : ℕ) (hi lo : List (List ℕ)) → AllByRecursion (AllByRecursion P) (joined k hi lo) → AllByRecursion (AllByRecursion P) hi × AllByRecursion (AllByRecursion P) lo
 all_sides P k [] lo a = (tt, a)
 all_sides P k (c ∷ hi) lo a = let r = all_sides P k hi lo a.1 in ((a.0.1, r.0), r.1)
 
@@ -69,13 +69,13 @@ module _ (t : Table) (n : ℕ) (x : Node) (held : Number t n) (o : Opens t n x) 
       ∙ ap (λ (l : List ℕ). lines_below prefix longer hi ++ lines_below prefix l lo) (sym f)
 
   module _ (m : ℕ) (path : List ℕ) (b : Below m path (clauses t n)) where
-    sides : (P : ℕ → Type 0) → All (All P) (clauses t n) → All (All P) hi × All (All P) lo
-    sides P a = all_sides P x.code hi lo (subst (All (All P)) o.means a)
+    sides : (P : ℕ → Type 0) → AllByRecursion (AllByRecursion P) (clauses t n) → AllByRecursion (AllByRecursion P) hi × AllByRecursion (AllByRecursion P) lo
+    sides P a = all_sides P x.code hi lo (subst (AllByRecursion (AllByRecursion P)) o.means a)
 
-    here : (P : ℕ → Type 0) → All (All P) (clauses t n) → P x.code
+    here : (P : ℕ → Type 0) → AllByRecursion (AllByRecursion P) (clauses t n) → P x.code
     here P a =
         let w = has_clause t x.with (omega (arith, o.with_less)) o.filled in
-        let r : All (All P) (joined x.code (w.0 ∷ w.1) lo) = subst (λ (s : List (List ℕ)). All (All P) (joined x.code s lo)) w.2 (subst (All (All P)) o.means a) in
+        let r : AllByRecursion (AllByRecursion P) (joined x.code (w.0 ∷ w.1) lo) = subst (λ (s : List (List ℕ)). AllByRecursion (AllByRecursion P) (joined x.code s lo)) w.2 (subst (AllByRecursion (AllByRecursion P)) o.means a) in
         r.0.0
 
     pub short : length path < 512
@@ -86,22 +86,22 @@ module _ (t : Table) (n : ℕ) (x : Node) (held : Number t n) (o : Opens t n x) 
         let d = here (λ (k : ℕ). length path ≤ k) b.deep in
         let l = ap length e ∙ length_push path x.code in
         record {
-          path_bound = subst (All (λ (k : ℕ). k < m)) (sym e) (All-push (λ (k : ℕ). k < m) path x.code b.path_bound (here (λ (k : ℕ). k < m) b.bound));
+          path_bound = subst (AllByRecursion (λ (k : ℕ). k < m)) (sym e) (All-push (λ (k : ℕ). k < m) path x.code b.path_bound (here (λ (k : ℕ). k < m) b.bound));
           bound = (sides (λ (k : ℕ). k < m) b.bound).0;
-          deep = All-weaker (All (λ (k : ℕ). x.code < k)) (All (λ (k : ℕ). length longer ≤ k)) (All-weaker (λ (k : ℕ). x.code < k) (λ (k : ℕ). length longer ≤ k) (λ k h. omega arith)) hi o.with_over;
+          deep = All-weaker (AllByRecursion (λ (k : ℕ). x.code < k)) (AllByRecursion (λ (k : ℕ). length longer ≤ k)) (All-weaker (λ (k : ℕ). x.code < k) (λ (k : ℕ). length longer ≤ k) (λ k h. omega arith)) hi o.with_over;
         }
 
     pub below_low : (after : List ℕ) → after ≡ path → Below m after lo
     below_low after e = subst (λ (p : List ℕ). Below m p lo) (sym e) (record { path_bound = b.path_bound; bound = (sides (λ (k : ℕ). k < m) b.bound).1; deep = (sides (λ (k : ℕ). length path ≤ k) b.deep).1 })
 
 -- all clauses are below the empty path
-all_from : (s : List (List ℕ)) → All (All (λ k. 0 ≤ k)) s
+all_from : (s : List (List ℕ)) → AllByRecursion (AllByRecursion (λ k. 0 ≤ k)) s
 all_from [] = tt
 all_from (c ∷ s) = (each c, all_from s)
   where
-    each : (c : List ℕ) → All (λ k. 0 ≤ k) c
+    each : (c : List ℕ) → AllByRecursion (λ k. 0 ≤ k) c
     each [] = tt
     each (k ∷ c) = (omega arith, each c)
 
-pub below_none : (m : ℕ) (path : List ℕ) (s : List (List ℕ)) → path ≡ [] → All (All (λ k. k < m)) s → Below m path s
+pub below_none : (m : ℕ) (path : List ℕ) (s : List (List ℕ)) → path ≡ [] → AllByRecursion (AllByRecursion (λ k. k < m)) s → Below m path s
 below_none m path s e b = subst (λ (p : List ℕ). Below m p s) (sym e) (record { path_bound = tt; bound = b; deep = all_from s })

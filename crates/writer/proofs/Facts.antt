@@ -1,6 +1,6 @@
 -- What holds of a formula that was read, so that it can be stored and written.
 use Rattle.std.proofs.Common.{◌≡◌, ℕ, ◌*◌, ◌<◌, ◌≤◌, Bool, true, false, List, [], length, sym, ap, subst, arith}
-use Rattle.std.specs.List.{AllByRecursion as All}
+use Rattle.std.specs.List.{AllByRecursion}
 use Rattle.std.proofs.ByRecursion.{All-weaker}
 use Rattle.formula.specs.declared.prefix.Binding.{Binding}
 use Rattle.formula.specs.declared.Formula.{Formula}
@@ -27,15 +27,15 @@ known_within v prefix k known =
     subst (λ (k : ℕ). k < 2 * length prefix) (sym coded.2) (code_within (literal_of prefix k).negative coded.0 (length prefix) (omega arith))
 
 module _ {text : List ℕ} {f : Reading} (h : Format text f) where
-  within : All (All (λ k. k < 2 * length f.prefix)) h.written_clauses
-  within = All-weaker (All (Known f.variables f.prefix)) (All (λ (k : ℕ). k < 2 * length f.prefix)) (All-weaker (Known f.variables f.prefix) (λ (k : ℕ). k < 2 * length f.prefix) (known_within f.variables f.prefix)) h.written_clauses (clauses_cost h.clauses_are).1
+  within : AllByRecursion (AllByRecursion (λ k. k < 2 * length f.prefix)) h.written_clauses
+  within = All-weaker (AllByRecursion (Known f.variables f.prefix)) (AllByRecursion (λ (k : ℕ). k < 2 * length f.prefix)) (All-weaker (Known f.variables f.prefix) (λ (k : ℕ). k < 2 * length f.prefix) (known_within f.variables f.prefix)) h.written_clauses (clauses_cost h.clauses_are).1
 
   -- all codes are those of the prefix
-  pub stored_within : All (All (λ k. k < 2 * length f.prefix)) f.clauses
-  stored_within = subst (All (All (λ (k : ℕ). k < 2 * length f.prefix))) (sym h.stored) (codes_stored (λ (k : ℕ). k < 2 * length f.prefix) h.written_clauses within)
+  pub stored_within : AllByRecursion (AllByRecursion (λ k. k < 2 * length f.prefix)) f.clauses
+  stored_within = subst (AllByRecursion (AllByRecursion (λ (k : ℕ). k < 2 * length f.prefix))) (sym h.stored) (codes_stored (λ (k : ℕ). k < 2 * length f.prefix) h.written_clauses within)
 
-  pub set_within : All (All (λ k. k < 2 * length f.prefix)) (formed [] f.clauses)
-  set_within = subst (λ (s : List (List ℕ)). All (All (λ k. k < 2 * length f.prefix)) (formed [] s)) (sym h.stored) (codes_formed (λ (k : ℕ). k < 2 * length f.prefix) h.written_clauses within)
+  pub set_within : AllByRecursion (AllByRecursion (λ k. k < 2 * length f.prefix)) (formed [] f.clauses)
+  set_within = subst (λ (s : List (List ℕ)). AllByRecursion (AllByRecursion (λ k. k < 2 * length f.prefix)) (formed [] s)) (sym h.stored) (codes_formed (λ (k : ℕ). k < 2 * length f.prefix) h.written_clauses within)
 
   -- and there are no more clauses than were declared
   pub set_few : length (formed [] f.clauses) ≤ 2048
@@ -47,7 +47,7 @@ module _ {text : List ℕ} {f : Reading} (h : Format text f) where
       omega arith
 
 -- a formula that was read: all codes are below 512
-pub stored_coded : {text : List ℕ} (f : Formula) → Format text (reading f) → All (All (λ k. k < 512)) (clauses_of f.clauses)
+pub stored_coded : {text : List ℕ} (f : Formula) → Format text (reading f) → AllByRecursion (AllByRecursion (λ k. k < 512)) (clauses_of f.clauses)
 stored_coded f h =
     let l = prefix_short f.prefix in
-    All-weaker (All (λ (k : ℕ). k < 2 * length (bindings_of f.prefix))) (All (λ (k : ℕ). k < 512)) (All-weaker (λ (k : ℕ). k < 2 * length (bindings_of f.prefix)) (λ (k : ℕ). k < 512) (λ k b. omega arith)) (clauses_of f.clauses) (stored_within h)
+    All-weaker (AllByRecursion (λ (k : ℕ). k < 2 * length (bindings_of f.prefix))) (AllByRecursion (λ (k : ℕ). k < 512)) (All-weaker (λ (k : ℕ). k < 2 * length (bindings_of f.prefix)) (λ (k : ℕ). k < 512) (λ k b. omega arith)) (clauses_of f.clauses) (stored_within h)

@@ -1,7 +1,7 @@
 -- How long a text can be: a number has at most 64 bytes, a clause 512 literals, a set 2,048 clauses.
 use Rattle.std.proofs.Common.{◌≡◌, ℕ, zero, suc, ◌+◌, ◌*◌, ◌/◌, ◌%◌, ◌<◌, ◌≤◌, false, eqb, List, [], ◌∷◌, ◌++◌, length, Some, None, decimal, Option, sym, ap, subst, arith, length-append, length-take}
 use Rattle.std.specs.Fmt.{digits_onto, digits, digit_glyph}
-use Rattle.std.specs.List.{AllByRecursion as All}
+use Rattle.std.specs.List.{AllByRecursion}
 use Rattle.std.proofs.ByRecursion.{All-weaker}
 use Rattle.std.proofs.lemmas.Bool.{cond_both}
 use Rattle.qbf.specs.declared.Quantifier.{Quantifier}
@@ -71,7 +71,7 @@ prefix_most bs = let h = bindings_most None bs in let e = ap length (prefix_as b
 
 -- the lines of the clauses
 
-rising_most : (n a : ℕ) (c : List ℕ) → a ≤ n → All (λ k. a ≤ k) c → All (λ k. k < n) c → Rising c → a + length c ≤ n
+rising_most : (n a : ℕ) (c : List ℕ) → a ≤ n → AllByRecursion (λ k. a ≤ k) c → AllByRecursion (λ k. k < n) c → Rising c → a + length c ≤ n
 rising_most n a [] h above under r = omega arith
 rising_most n a (x ∷ c) h above under r =
     let p = above.0 in
@@ -83,11 +83,11 @@ literals_most : (prefix : List Binding) (c : List ℕ) → total (literal_cost p
 literals_most prefix [] = omega arith
 literals_most prefix (k ∷ c) = let h = written_most (literal_of prefix k) in let ih = literals_most prefix c in omega arith
 
-all_above : (c : List ℕ) → All (λ k. 0 ≤ k) c
+all_above : (c : List ℕ) → AllByRecursion (λ k. 0 ≤ k) c
 all_above [] = tt
 all_above (k ∷ c) = (omega arith, all_above c)
 
-clauses_most : (prefix : List Binding) (s : List (List ℕ)) → All Rising s → All (All (λ k. k < 512)) s → total (clause_cost prefix) s ≤ 33794 * length s
+clauses_most : (prefix : List Binding) (s : List (List ℕ)) → AllByRecursion Rising s → AllByRecursion (AllByRecursion (λ k. k < 512)) s → total (clause_cost prefix) s ≤ 33794 * length s
 clauses_most prefix [] r u = omega arith
 clauses_most prefix (c ∷ s) r u =
     let h = literals_most prefix c in
@@ -100,16 +100,16 @@ pub prefix_short : (p : Prefix) → length (bindings_of p) ≤ 256
 prefix_short p = let f = p.fits in omega (arith, length-take p.len p.bindings)
 
 -- so every text that is written can be counted
-module _ (t : Table) (n : ℕ) (p : Prefix) (bs : List Binding) (e : bs ≡ bindings_of p) (bound : All (All (λ k. k < 2 * length (bindings_of p))) (clauses t n)) where
-  pub bound_as : All (All (λ k. k < 2 * length bs)) (clauses t n)
-  bound_as = subst (λ (bs : List Binding). All (All (λ k. k < 2 * length bs)) (clauses t n)) (sym e) bound
+module _ (t : Table) (n : ℕ) (p : Prefix) (bs : List Binding) (e : bs ≡ bindings_of p) (bound : AllByRecursion (AllByRecursion (λ k. k < 2 * length (bindings_of p))) (clauses t n)) where
+  pub bound_as : AllByRecursion (AllByRecursion (λ k. k < 2 * length bs)) (clauses t n)
+  bound_as = subst (λ (bs : List Binding). AllByRecursion (AllByRecursion (λ k. k < 2 * length bs)) (clauses t n)) (sym e) bound
 
   pub room : (v : ℕ) → Number t n → length (clauses t n) ≤ 2048 → Room 0 (render v bs (clauses t n))
   room v held few =
       let s = clauses t n in
       let l = prefix_short p in
       let same = ap length e in
-      let u : All (All (λ k. k < 512)) s = All-weaker (All (λ (k : ℕ). k < 2 * length bs)) (All (λ (k : ℕ). k < 512)) (All-weaker (λ (k : ℕ). k < 2 * length bs) (λ (k : ℕ). k < 512) (λ k h. omega arith)) s bound_as in
+      let u : AllByRecursion (AllByRecursion (λ k. k < 512)) s = All-weaker (AllByRecursion (λ (k : ℕ). k < 2 * length bs)) (AllByRecursion (λ (k : ℕ). k < 512)) (All-weaker (λ (k : ℕ). k < 2 * length bs) (λ (k : ℕ). k < 512) (λ k h. omega arith)) s bound_as in
       let c = clauses_most bs s (sets_formed t n held).0 u in
       let q = prefix_most bs in
       let d = decimal_most v in

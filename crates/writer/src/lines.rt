@@ -1,6 +1,6 @@
 // The lines of a formula's text.
 ghost use Rattle.std.specs.Prelude.{◌≡◌, ◌*◌, ◌<◌, [], ◌∷◌, length};
-ghost use Rattle.std.specs.List.{AllByRecursion as All};
+ghost use Rattle.std.specs.List.{AllByRecursion};
 ghost use Rattle.words.specs.Numbers.{written};
 ghost use Rattle.grammar.specs.Grammar.{letter};
 ghost use Rattle.rendering.specs.Render.{problem_line, prefix_lines, clause_line, literal_of};
@@ -39,7 +39,7 @@ fn put_literal(buffer: &mut [u8], at: usize, prefix: &[Binding], code: u16) -> u
 
 // The line of a clause.
 pub fn put_clause(buffer: &mut [u8], at: usize, prefix: &[Binding], codes: &[u16]) -> usize
-    requires bound { All (λ k. k < 2 * length prefix.now) codes.now }
+    requires bound { AllByRecursion (λ k. k < 2 * length prefix.now) codes.now }
     requires room { Room at (clause_line prefix.now codes.now) }
     ensures { Put buffer.old at (clause_line prefix.now codes.now) buffer.new result }
 {

@@ -1,6 +1,6 @@
 // The whole text of a formula.
 ghost use Rattle.std.specs.Prelude.{◌*◌, ◌<◌, ◌≤◌, length, MatchResult};
-ghost use Rattle.std.specs.List.{AllByRecursion as All};
+ghost use Rattle.std.specs.List.{AllByRecursion};
 ghost use Rattle.formula.specs.Views.{bindings_of};
 ghost use Rattle.rendering.specs.Render.{render};
 ghost use Rattle.table.specs.Tables.{Number, clauses};
@@ -28,7 +28,7 @@ fn put_formula(
     prefix: &[Binding],
 ) -> usize
     requires held { Number table.now number }
-    requires bound { All (All (λ k. k < 2 * length prefix.now)) (clauses table.now number) }
+    requires bound { AllByRecursion (AllByRecursion (λ k. k < 2 * length prefix.now)) (clauses table.now number) }
     requires few { length (clauses table.now number) ≤ 2048 }
     requires room { Room 0 (render variables prefix.now (clauses table.now number)) }
     ensures { Put buffer.old 0 (render variables prefix.now (clauses table.now number)) buffer.new result }
@@ -49,7 +49,7 @@ pub fn write(
     buffer: &mut [u8],
 ) -> Result<usize, TooShort>
     requires held { Number table.now number }
-    requires bound { All (All (λ k. k < 2 * length (bindings_of prefix.now))) (clauses table.now number) }
+    requires bound { AllByRecursion (AllByRecursion (λ k. k < 2 * length (bindings_of prefix.now))) (clauses table.now number) }
     requires few { length (clauses table.now number) ≤ 2048 }
     ensures { MatchResult result
         (Written (render variables (bindings_of prefix.now) (clauses table.now number)) buffer.old buffer.new)

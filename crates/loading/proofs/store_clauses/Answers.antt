@@ -1,5 +1,5 @@
 use Rattle.std.proofs.Common.{ℕ, ◌<◌, [], length, sym, subst, arith}
-use Rattle.std.specs.List.{AllByRecursion as All}
+use Rattle.std.specs.List.{AllByRecursion}
 use Rattle.std.proofs.ByRecursion.{All-get_or}
 use Rattle.std.proofs.lemmas.Result.{err_from_is_err_and}
 use Rattle.formula.specs.Views.{clauses_of}
@@ -12,7 +12,7 @@ loop-place-init c = none_stored c.args.table.now (clauses_of c.args.clauses.now)
 pub single-requires : goal.single-requires
 single-requires c =
     let inside : c.loop-place.place < length (clauses_of c.args.clauses.now) = omega arith in
-    subst (All (λ (x : ℕ). x < 512)) (sym c.clause.ensures) (All-get_or (All (λ (x : ℕ). x < 512)) (clauses_of c.args.clauses.now) c.loop-place.place [] inside c.requires)
+    subst (AllByRecursion (λ (x : ℕ). x < 512)) (sym c.clause.ensures) (All-get_or (AllByRecursion (λ (x : ℕ). x < 512)) (clauses_of c.args.clauses.now) c.loop-place.place [] inside c.requires)
 
 pub returns-in-err-clause : goal.returns-in-err-clause
 returns-in-err-clause c =

@@ -1,5 +1,5 @@
 use Rattle.std.proofs.Common.{◌≡◌, ℕ, ◌*◌, ◌<◌, ◌≤◌, List, [], length, sym, refl, subst}
-use Rattle.std.specs.List.{AllByRecursion as All}
+use Rattle.std.specs.List.{AllByRecursion}
 use Rattle.std.proofs.lemmas.Result.{err_from_is_err_and}
 use Rattle.formula.specs.Views.{reading, bindings_of}
 use Rattle.rendering.specs.Render.{render}
@@ -29,7 +29,7 @@ write-requires c =
     let is = c.in-ok-number.ensures.cases.1 in
     record {
       held = is.held;
-      bound = subst (All (All (λ (k : ℕ). k < 2 * length (bindings_of f.prefix)))) (sym is.means) (set_within format);
+      bound = subst (AllByRecursion (AllByRecursion (λ (k : ℕ). k < 2 * length (bindings_of f.prefix)))) (sym is.means) (set_within format);
       few = subst (λ (s : List (List ℕ)). length s ≤ 2048) (sym is.means) (set_few format);
     }
 

@@ -1,5 +1,5 @@
 use Rattle.std.proofs.Common.{◌≡◌, ℕ, ◌<◌, ◌≤◌, List, length, get_or, take, ap, ◌∙◌, subst, arith}
-use Rattle.std.specs.List.{AllByRecursion as All}
+use Rattle.std.specs.List.{AllByRecursion}
 use Rattle.std.proofs.lemmas.List.{take_all}
 use Rattle.qbf.specs.Lists.{mem}
 use Rattle.diagram.proofs.Marks.{marked_none, marked_more, spanned_none, spanned_more}
@@ -10,7 +10,7 @@ use Rattle.diagram.proofs.clause.mark.Goals.{Joined-code-end, then-code-low, els
 pub loop-code-init : goal.loop-code-init
 loop-code-init c = (marked_none, spanned_none)
 
-small : (xs : List ℕ) (i : ℕ) → i < length xs → All (λ x. x < 512) xs → get_or xs i 0 < 512
+small : (xs : List ℕ) (i : ℕ) → i < length xs → AllByRecursion (λ x. x < 512) xs → get_or xs i 0 < 512
 small xs i lt a = All-get_or (λ x. x < 512) xs i 0 lt a
 
 pub bounds-at-code : goal.bounds-at-code
@@ -50,4 +50,4 @@ returns c =
     let xs = c.args.codes.now in
     let e : take c.loop-code.code-index xs ≡ xs = take_all c.loop-code.code-index xs (omega arith) in
     let s = c.loop-code.invariant.1 in
-    record { marked = λ k h. c.loop-code.invariant.0.each k h ∙ ap (mem k) e; within = subst (All (λ x. (c.loop-code.low ≤ x) × (x < c.loop-code.end))) e s.within; coded = s.coded }
+    record { marked = λ k h. c.loop-code.invariant.0.each k h ∙ ap (mem k) e; within = subst (AllByRecursion (λ x. (c.loop-code.low ≤ x) × (x < c.loop-code.end))) e s.within; coded = s.coded }

@@ -1,5 +1,5 @@
 use Rattle.std.proofs.Common.{◌≡◌, ℕ, ◌*◌, ◌<◌, List, ◌++◌, length, sym, refl, ap, ◌∙◌, subst, arith}
-use Rattle.std.specs.List.{AllByRecursion as All}
+use Rattle.std.specs.List.{AllByRecursion}
 use Rattle.std.proofs.lemmas.List.{length_push}
 use Rattle.table.specs.Tables.{clauses}
 use Rattle.writer.specs.Paths.{codes_of, lines_below}
@@ -14,7 +14,7 @@ returns-then-number-eq0 t c = record { text = put_as (no_lines c.args.table.now 
 
 pub put-clause-requires : goal.put-clause-requires
 put-clause-requires t c = record {
-  bound = subst (All (λ (k : ℕ). k < 2 * length c.args.prefix.now)) (sym c.codes.ensures) c.requires.below.path_bound;
+  bound = subst (AllByRecursion (λ (k : ℕ). k < 2 * length c.args.prefix.now)) (sym c.codes.ensures) c.requires.below.path_bound;
   room = subst (Room c.args.at) (sym (one_line c.args.table.now c.args.number c.args.prefix.now (codes_of c.args.path.now) _ c.if-number-eq1.true c.codes.ensures)) c.requires.room;
 }
 

@@ -1,5 +1,5 @@
 use Rattle.std.proofs.Common.{ℕ, ◌*◌, ◌<◌, ◌≤◌, List, length, Some, sym, refl, ap, subst}
-use Rattle.std.specs.List.{AllByRecursion as All}
+use Rattle.std.specs.List.{AllByRecursion}
 use Rattle.std.proofs.lemmas.Result.{err_from_is_err_and}
 use Rattle.formula.specs.Views.{bindings_of}
 use Rattle.session.specs.declared.stored.Stored.{Stored}
@@ -39,7 +39,7 @@ invariant-of-self-2 c =
         (
           λ g e. stored_few u prefix (bindings_of f.prefix) stored under g e (subst (λ (s : List (List ℕ)). length s ≤ 2048) (sym is.means) (set_few read)),
           (
-            λ g e. stored_within u prefix (bindings_of f.prefix) stored under g e (subst (All (All (λ (k : ℕ). k < 2 * length (bindings_of f.prefix)))) (sym is.means) (set_within read)),
+            λ g e. stored_within u prefix (bindings_of f.prefix) stored under g e (subst (AllByRecursion (AllByRecursion (λ (k : ℕ). k < 2 * length (bindings_of f.prefix)))) (sym is.means) (set_within read)),
             tt,
           ),
         ),
