@@ -5,8 +5,8 @@ use Rattle.words.proofs.Decimal.{numeral_decimal}
 use Rattle.script.proofs.Values.{read_by_value}
 use Rattle.script.proofs.numbers.number.Goals as goal
 
-pub returns-then-not-is-numeral : goal.returns-then-not-is-numeral
-returns-then-not-is-numeral c = λ n h e. false≢true (c.if-not-is-numeral.ensures ∙ ap numeral e ∙ numeral_decimal n (omega arith))
+pub returns-then-not-is_numeral : goal.returns-then-not-is_numeral
+returns-then-not-is_numeral c = λ n h e. false≢true (c.if-not-is_numeral.ensures ∙ ap numeral e ∙ numeral_decimal n (omega arith))
 
 pub returns : goal.returns
-returns c = read_by_value c.args.word.now c.args.max c.value.result (omega arith) (sym c.if-not-is-numeral.ensures) c.value.ensures
+returns c = read_by_value c.args.word.now c.args.max c.value.result (omega arith) (sym c.if-not-is_numeral.ensures) c.value.ensures

@@ -6,8 +6,8 @@ use Rattle.script.proofs.Values.{value_so_far}
 use Rattle.script.proofs.numbers.value.Goals as goal
 use Rattle.script.proofs.numbers.value.Goals.{then-n-max-via-then-n-max, then-n-max-via-else-n-max+then-digit-max}
 
-pub overflow-sub-b : goal.overflow-sub-b
-overflow-sub-b c = (digits_on c.args.digits.now c.loop-b.b-index c.loop-b-test.true c.loop-b.invariant.1).0
+pub overflow_sub-b : goal.overflow_sub-b
+overflow_sub-b c = (digits_on c.args.digits.now c.loop-b.b-index c.loop-b-test.true c.loop-b.invariant.1).0
 
 pub returns-then-n-max : goal.returns-then-n-max
 returns-then-n-max c =

@@ -6,5 +6,5 @@ pub loop-call-preserved : goal.loop-call-preserved
 loop-call-preserved c =
     let s = c.in-Some.ensures in
     let text = c.args.script.now in
-    let m = one_more (vec_items c.loop-call.calls) (vec_items c.push.new.self) c.in-Some.call (drop c.args.start text) (drop c.loop-call.at text) (drop c.in-Some.next text) c.in-ok-push.ensures.items c.loop-call.invariant.1 s.range c.loop-call.invariant.2 s.spells in
+    let m = one_more (vec_items c.loop-call.calls) (vec_items c.push.new.self) c.in-Some.call (drop c.args.start text) (drop c.loop-call.at text) (drop c.in-Some.next text) c.in_ok-push.ensures.items c.loop-call.invariant.1 s.range c.loop-call.invariant.2 s.spells in
     (s.within, m.0, m.1)
