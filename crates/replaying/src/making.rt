@@ -28,7 +28,7 @@ fn with_memo<C: Chooser + Drop>(
     chooser: C,
     calls: &[Call],
 ) -> Result<Transcript, AllocError>
-    ensures { IfOk result (λ t. RanWith memo (picks chooser) calls.now t) }
+    ensures { IfOk result (λ t. RanWith memo (C.picks chooser) calls.now t) }
 {
     match memo {
         MemoKind::Blank => run(heap, Blank::new(), chooser, calls),

@@ -33,7 +33,7 @@ fn show_loading<W: fmt::Write>(
     answer: Result<Loaded, Fault>,
     f: &mut fmt::Formatter<W>,
 ) -> fmt::Result
-    ensures { DisplaysOnOk write_str_gives f.old result (Some (load_line answer)) f.new }
+    ensures { DisplaysOnOk W.write_str_gives f.old result (Some (load_line answer)) f.new }
 {
     match answer {
         Ok(loaded) => {
@@ -49,7 +49,7 @@ fn show_decision<W: fmt::Write>(
     answer: Result<(bool, u32), Fault>,
     f: &mut fmt::Formatter<W>,
 ) -> fmt::Result
-    ensures { DisplaysOnOk write_str_gives f.old result (Some (decide_line answer)) f.new }
+    ensures { DisplaysOnOk W.write_str_gives f.old result (Some (decide_line answer)) f.new }
 {
     match answer {
         Ok((verdict, splits)) => {
@@ -64,7 +64,7 @@ fn show_writing<W: fmt::Write>(
     answer: Result<usize, Fault>,
     f: &mut fmt::Formatter<W>,
 ) -> fmt::Result
-    ensures { DisplaysOnOk write_str_gives f.old result (Some (write_line answer)) f.new }
+    ensures { DisplaysOnOk W.write_str_gives f.old result (Some (write_line answer)) f.new }
 {
     match answer {
         Ok(len) => write!(f, "wrote {len}"),
@@ -74,7 +74,7 @@ fn show_writing<W: fmt::Write>(
 
 // A refusal that carries no value is shown with 0.
 fn show_refusal<W: fmt::Write>(fault: Fault, f: &mut fmt::Formatter<W>) -> fmt::Result
-    ensures { DisplaysOnOk write_str_gives f.old result (Some (refused_line (fault_told fault))) f.new }
+    ensures { DisplaysOnOk W.write_str_gives f.old result (Some (refused_line (fault_told fault))) f.new }
 {
     let number = fault.number();
     let value = fault.value().unwrap_or(0);

@@ -19,7 +19,7 @@ pub fn run<M: Memo + Drop, C: Chooser + Drop>(
     chooser: C,
     calls: &[Call],
 ) -> Result<Transcript, AllocError>
-    ensures { IfOk result (λ t. Ran held notes (picks chooser) calls.now t) }
+    ensures { IfOk result (λ t. Ran M.held M.notes (C.picks chooser) calls.now t) }
 {
     let mut session = Session::new(memo, chooser);
     let mut answers = Vec::new(heap);
@@ -37,7 +37,7 @@ fn carry_out<M: Memo, C: Chooser>(
     call: Call,
     texts: &mut Vec<u8>,
 ) -> Result<Answer, AllocError>
-    ensures { IfOk result (λ a. Carried held notes picks session.old texts.old.items call.entry a session.new texts.new.items) }
+    ensures { IfOk result (λ a. Carried M.held M.notes C.picks session.old texts.old.items call.entry a session.new texts.new.items) }
 {
     match call {
         Call::Load(text) => Ok(Answer::Loading(session.load(text))),
@@ -56,7 +56,7 @@ fn write_out<M: Memo, C: Chooser>(
     space: Space,
     texts: &mut Vec<u8>,
 ) -> Result<Answer, AllocError>
-    ensures { IfOk result (λ a. Carried held notes picks session.now texts.old.items (Write space) a session.now texts.new.items) }
+    ensures { IfOk result (λ a. Carried M.held M.notes C.picks session.now texts.old.items (Write space) a session.now texts.new.items) }
 {
     let mut buffer = [0u8; Space::MOST];
     let answer = write_by(session, &mut buffer[0..space.bytes()], texts)?;
@@ -69,7 +69,7 @@ fn write_by<M: Memo, C: Chooser>(
     buffer: &mut [u8],
     texts: &mut Vec<u8>,
 ) -> Result<Result<usize, Fault>, AllocError>
-    ensures { IfOk result (λ a. WriteCarried held notes picks session.now texts.old.items (length buffer.old) a texts.new.items) }
+    ensures { IfOk result (λ a. WriteCarried M.held M.notes C.picks session.now texts.old.items (length buffer.old) a texts.new.items) }
 {
     let answer = session.write(buffer);
     if let Ok(len) = answer {

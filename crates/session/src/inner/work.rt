@@ -89,7 +89,7 @@ impl Core {
         allowance: u32,
     ) -> Result<(bool, u32), Fault>
         requires { allowance ≤ 1000000 }
-        ensures { Decided held notes (picks chooser.now) (core_stands self.old memo.old) allowance result (core_stands self.new memo.new) }
+        ensures { Decided M.held M.notes (C.picks chooser.now) (core_stands self.old memo.old) allowance result (core_stands self.new memo.new) }
     {
         let Some(formula) = self.formula else {
             return Err(Fault::NoFormula);

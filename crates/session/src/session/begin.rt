@@ -14,7 +14,7 @@ use memos::Memo;
 impl<M: Memo, C: Chooser> Session<M, C> {
     // Takes a prefix. What is known under another one is forgotten: numbers and verdicts go by the prefix.
     pub(crate) fn begin(&mut self, prefix: &Prefix)
-        ensures begins { Begins held (bindings_of prefix.now) (standing self.old) (standing self.new) }
+        ensures begins { Begins M.held (bindings_of prefix.now) (standing self.old) (standing self.new) }
         ensures chooser { self.new.chooser ≡ self.old.chooser }
     {
         if !self.core.has_prefix(prefix) {
@@ -24,7 +24,7 @@ impl<M: Memo, C: Chooser> Session<M, C> {
 
     // Begins anew under a prefix, or none. What the memo holds is of the old numbers, so it is forgotten.
     pub(crate) fn restart(&mut self, prefix: Option<Prefix>)
-        ensures memo { Empty (held self.new.memo) }
+        ensures memo { Empty (M.held self.new.memo) }
         ensures prefix { self.new.core.prefix ≡ prefix }
         ensures formula { self.new.core.formula ≡ None }
         ensures table { sets_of self.new.core.table ≡ [] }

@@ -26,9 +26,9 @@ fn is_allowed(allowance: u32) -> bool
 impl<M: Memo, C: Chooser> Session<M, C> {
     // A session with nothing loaded. Whatever the memo held is forgotten.
     pub fn new(memo: M, chooser: C) -> Session<M, C>
-        ensures fresh { Fresh held (standing result) }
+        ensures fresh { Fresh M.held (standing result) }
         ensures chooser { result.chooser ≡ chooser }
-        ensures led { LedTo held notes picks [] result }
+        ensures led { LedTo M.held M.notes C.picks [] result }
     {
         let mut memo = memo;
         memo.clear();
@@ -41,7 +41,7 @@ impl<M: Memo, C: Chooser> Session<M, C> {
 
     // Reads the whole text, and then stores its clauses. A text that is refused leaves the session as it was.
     pub fn load(&mut self, text: &[u8]) -> Result<Loaded, Fault>
-        ensures { LoadDealt held notes picks self.old text.now result self.new }
+        ensures { LoadDealt M.held M.notes C.picks self.old text.now result self.new }
     {
         let mut formula = Formula::new();
         read_into(text, &mut formula)?;
@@ -52,7 +52,7 @@ impl<M: Memo, C: Chooser> Session<M, C> {
 
     // The verdict on the loaded formula and the splits that it took, within an allowance of splits.
     pub fn decide(&mut self, allowance: u32) -> Result<(bool, u32), Fault>
-        ensures { DecideDealt held notes picks self.old allowance result self.new }
+        ensures { DecideDealt M.held M.notes C.picks self.old allowance result self.new }
     {
         if !is_allowed(allowance) {
             return Err(Fault::AllowanceTooLarge);
@@ -65,7 +65,7 @@ impl<M: Memo, C: Chooser> Session<M, C> {
 
     // Writes the loaded formula to the front of the buffer, and tells its length.
     pub fn write(&self, buffer: &mut [u8]) -> Result<usize, Fault>
-        ensures dealt { WriteDealt held notes picks self.now (length buffer.old) result }
+        ensures dealt { WriteDealt M.held M.notes C.picks self.now (length buffer.old) result }
         ensures buffer { BufferLeft (standing self.now) buffer.old buffer.new result }
     {
         self.core.write(buffer)
@@ -73,7 +73,7 @@ impl<M: Memo, C: Chooser> Session<M, C> {
 
     // Forgets everything: the session is as a new one.
     pub fn forget(&mut self)
-        ensures { Dealt held notes picks self.old forget self.new }
+        ensures { Dealt M.held M.notes C.picks self.old forget self.new }
     {
         self.restart(None);
     }
