@@ -1,6 +1,6 @@
 -- How the answer of a decision ends it.
 use Rattle.std.specs.Prelude.{ℕ, Bool, Ok, Err, Result}
-use Rattle.qbf.specs.Decision.{Refusal, full, spent, too-deep, Ending, verdict, refused}
+use Rattle.qbf.specs.Decision.{Refusal, full, spent, too_deep, Ending, verdict, refused}
 use Rattle.decision.specs.declared.unfinished.Halt.{Halt}
 use Rattle.decision.specs.declared.unfinished.Halt.TheVariants.{Full, Spent, TooDeep}
 use Rattle.decision.specs.declared.unfinished.Unfinished.{Unfinished}
@@ -8,7 +8,7 @@ use Rattle.decision.specs.declared.unfinished.Unfinished.{Unfinished}
 abbrev pub refusal : Halt → Refusal
 refusal Full = full
 refusal Spent = spent
-refusal TooDeep = too-deep
+refusal TooDeep = too_deep
 
 -- by a verdict, or without one
 abbrev pub ending_of : Result (Bool × ℕ) Unfinished → Ending

@@ -9,7 +9,7 @@ use Rattle.qbf.specs.Lists.{In}
 use Rattle.qbf.specs.Nodes.{Crowded}
 use Rattle.qbf.specs.Memo.{Pairs, Kept, NeverHolds}
 use Rattle.qbf.specs.Numbering.{Numbering, capacity, Among, Gains}
-use Rattle.qbf.specs.Decision.{full, spent, too-deep, Ending, verdict, refused}
+use Rattle.qbf.specs.Decision.{full, spent, too_deep, Ending, verdict, refused}
 use Rattle.sets.specs.Formed.{forming}
 use Rattle.theory.specs.Deciding.{Overfull, Judged}
 use Rattle.theory.proofs.Terms.{Subset}
@@ -80,7 +80,7 @@ module _ {M : Type 0} (held : M → Pairs) (notes : M → ℕ → Bool → M →
       at (verdict b) i = promised_verdict f c (j.right b i) few (eq b i)
       at (refused spent) i = let d = j.deserved i in promised_spent f c d.0 (omega (arith, d.1))
       at (refused full) i = promised_full f c few (overfull_crowded weighed _ p w (j.crowded i))
-      at (refused too-deep) i = promised_deep f c few (omega (arith, j.deep i))
+      at (refused too_deep) i = promised_deep f c few (omega (arith, j.deep i))
 
   pub decision_keeps : DecisionKeeps held notes
   decision_keeps pick picks l f allowance splits c before after memo kept e w right d =

@@ -1,6 +1,6 @@
 -- How the calls of a session are answered, and how a refusal is told: by its number, from 1 to 12, and a value.
 use Rattle.std.specs.Prelude.{ℕ, Bool, Some, None, Option}
-use Rattle.qbf.specs.Decision.{Refusal, full, spent, too-deep, Ending, verdict, refused}
+use Rattle.qbf.specs.Decision.{Refusal, full, spent, too_deep, Ending, verdict, refused}
 use Rattle.grammar.specs.declared.fault.ReadFault.{ReadFault}
 use Rattle.grammar.specs.Rules.{number_of}
 
@@ -44,7 +44,7 @@ with_value n v = record { number = n; value = Some v }
 abbrev pub refusal_number : Refusal → ℕ
 refusal_number full = 10
 refusal_number spent = 11
-refusal_number too-deep = 12
+refusal_number too_deep = 12
 
 -- How each answer is told that is a refusal. The reader's number, from 1 to 6, carries the byte offset; 9 carries the length
 -- needed; 10 to 12 from a decision carry the splits made. 7, 8 and a load's 10 carry nothing.

@@ -5,7 +5,7 @@ use Rattle.qbf.specs.Nodes.{Crowded}
 use Rattle.qbf.specs.Value.{value}
 use Rattle.qbf.specs.Walk.{Walked, bare}
 use Rattle.qbf.specs.Numbering.{capacity}
-use Rattle.qbf.specs.Decision.{full, spent, too-deep, most_open}
+use Rattle.qbf.specs.Decision.{full, spent, too_deep, most_open}
 use Rattle.formula.specs.declared.prefix.Binding.{Binding}
 use Rattle.formula.specs.Views.{Reading}
 use Rattle.grammar.specs.declared.fault.ReadFault.{ReadFault}
@@ -48,7 +48,7 @@ pub data DecisionPromised (pick : List Candidate → ℕ) (never_holds : Type 0)
   -- too many splits are open only where the bare walk has as many open
   promised_deep : {n : ℕ} (f : LoadedFormula) → CarriedOut l allowance f →
       FewSplits (walk_of pick l f) allowance n → most_open < (walk_of pick l f).depth →
-      DecisionPromised pick never_holds l weighed allowance (undecided too-deep n)
+      DecisionPromised pick never_holds l weighed allowance (undecided too_deep n)
   -- no formula is loaded; the allowance was looked at before that
   promised_nothing : l.formula ≡ None → allowance ≤ most_allowed → DecisionPromised pick never_holds l weighed allowance nothing_to_decide
   -- the allowance is above the largest

@@ -13,7 +13,7 @@ use Rattle.qbf.specs.Numbering.{Numbering, stands, Makes, Stops}
 
 -- why a decision ends without a verdict: the table is full, the allowance is spent, or too many splits are open
 pub data Refusal : Type 0 where
-  full spent too-deep : Refusal
+  full spent too_deep : Refusal
 
 -- how a decision ends
 pub data Ending : Type 0 where
@@ -73,7 +73,7 @@ pub data Decides {M : Type 0} (held : M → Pairs) (notes : M → ℕ → Bool �
   -- as many splits are open as may be
   by_depth : {depth splits n : ℕ} {t u : Numbering} {m : M} {s r : List (List ℕ)} →
       Unknown held prefix t m s r n u → splits < allowance → depth ≡ most_open →
-      Decides held notes prefix pick allowance depth splits t m s (refused too-deep) splits u m
+      Decides held notes prefix pick allowance depth splits t m s (refused too_deep) splits u m
   -- the table is full while the variable is set false
   full_first : {depth splits n x : ℕ} {t u v : Numbering} {m : M} {s r : List (List ℕ)} →
       Splits held prefix pick allowance depth splits t m s r n x u → Stops u (setting (negative x) r) v →

@@ -10,7 +10,7 @@ use Rattle.qbf.specs.Reduce.{Step, settled, forced, stuck, step, Outcome, decide
 use Rattle.qbf.specs.Walk.{outermost, candidates, picked, ends}
 use Rattle.qbf.specs.NodeList.{same_set, listed, nodes}
 use Rattle.qbf.specs.Numbering.{Numbering, capacity}
-use Rattle.qbf.specs.Decision.{full, spent, too-deep, Ending, verdict, refused, most_open}
+use Rattle.qbf.specs.Decision.{full, spent, too_deep, Ending, verdict, refused, most_open}
 
 -- the table after an attempt to make sets, and whether all of them were made
 pub record Attempt : Type 0 where
@@ -91,7 +91,7 @@ module _ {M : Type 0} (held : M → Pairs) (note : M → ℕ → Bool → M) (pr
   abbrev pub unknown : (ℕ → ℕ → Numbering → M → List (List ℕ) → Standing M) → ℕ → ℕ → Numbering → M → List (List ℕ) → Standing M
   unknown next depth splits t m r =
       cond (splits == allowance) (record { ending = refused spent; splits = splits; table = t; memo = m })
-      (cond (depth == most_open) (record { ending = refused too-deep; splits = splits; table = t; memo = m })
+      (cond (depth == most_open) (record { ending = refused too_deep; splits = splits; table = t; memo = m })
       (chosen next depth splits t m r (picked pick (candidates prefix r))))
 
   -- a verdict that the memo holds is used

@@ -1,6 +1,6 @@
 -- A refusal is told as its answer is.
 use Rattle.std.proofs.Common.{◌≡◌, ℕ, Bool, Ok, Err, Result, sym, refl, ap}
-use Rattle.qbf.specs.Decision.{full, spent, too-deep}
+use Rattle.qbf.specs.Decision.{full, spent, too_deep}
 use Rattle.decision.specs.declared.unfinished.Halt.{Halt}
 use Rattle.decision.specs.declared.unfinished.Halt.TheVariants.{Full, Spent, TooDeep}
 use Rattle.decision.specs.declared.unfinished.Unfinished.{Unfinished}
@@ -22,7 +22,7 @@ decisions_told : (a : DecideAnswer) → told (decide_result a) ≡ decide_told a
 decisions_told (found b n) = refl
 decisions_told (undecided full n) = refl
 decisions_told (undecided spent n) = refl
-decisions_told (undecided too-deep n) = refl
+decisions_told (undecided too_deep n) = refl
 decisions_told nothing_to_decide = refl
 decisions_told allowance_too_large = refl
 

@@ -1,6 +1,6 @@
 -- The answers of the calls, each as the code gives it: a refusal is a fault.
 use Rattle.std.specs.Prelude.{ℕ, Bool, Ok, Err, Result}
-use Rattle.qbf.specs.Decision.{Refusal, full, spent, too-deep}
+use Rattle.qbf.specs.Decision.{Refusal, full, spent, too_deep}
 use Rattle.decision.specs.declared.unfinished.Halt.{Halt}
 use Rattle.decision.specs.declared.unfinished.Halt.TheVariants.{Full, Spent, TooDeep}
 use Rattle.ledger.specs.Answers.{LoadAnswer, loaded, unread, load_full, DecideAnswer, found, undecided, nothing_to_decide, allowance_too_large, WriteAnswer, written, nothing_to_write, too_short}
@@ -16,7 +16,7 @@ load_result load_full = Err TableFull
 abbrev pub halted : Refusal → Halt
 halted full = Full
 halted spent = Spent
-halted too-deep = TooDeep
+halted too_deep = TooDeep
 
 abbrev pub decide_result : DecideAnswer → Result (Bool × ℕ) Fault
 decide_result (found b n) = Ok (b, n)

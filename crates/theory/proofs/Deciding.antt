@@ -11,7 +11,7 @@ use Rattle.qbf.specs.Value.{combine, value}
 use Rattle.qbf.specs.Reduce.{forced, step, Outcome, decided, left, Reduced, resume, reduce}
 use Rattle.qbf.specs.Walk.{outermost, candidates, picked, Walked, ends, bare}
 use Rattle.qbf.specs.Numbering.{Numbering, stands, Gains, Makes, Stops}
-use Rattle.qbf.specs.Decision.{Refusal, full, spent, too-deep, Ending, verdict, refused, most_open, ReducesIn, settles, sticks, forces, fills, Unknown, Decides, by_reducing, full_reducing, recalled, by_allowance, by_depth, full_first, refused_first, first_only, full_second, refused_second, both_sides, Right}
+use Rattle.qbf.specs.Decision.{Refusal, full, spent, too_deep, Ending, verdict, refused, most_open, ReducesIn, settles, sticks, forces, fills, Unknown, Decides, by_reducing, full_reducing, recalled, by_allowance, by_depth, full_first, refused_first, first_only, full_second, refused_second, both_sides, Right}
 use Rattle.theory.specs.Deciding.{Overfull, Judged, DecisionRight, DecisionBlank}
 use Rattle.theory.proofs.Reduces.{reduce_unfolds, reduced_to, reduces_keeps}
 use Rattle.theory.proofs.Walking.{bare_right}
@@ -80,7 +80,7 @@ module _ {M : Type 0} (held : M → Pairs) (notes : M → ℕ → Bool → M →
     most = most;
     allowed = allowed;
     deserved = λ e. absurd (not_refused spent b e);
-    deep = λ e. absurd (not_refused too-deep b e);
+    deep = λ e. absurd (not_refused too_deep b e);
     gains = gains;
     crowded = λ e. absurd (not_refused full b e);
   }
@@ -185,12 +185,12 @@ module _ {M : Type 0} (held : M → Pairs) (notes : M → ℕ → Bool → M →
         bg.right,
       )
 
-  deep_sound : {depth splits n : ℕ} {t u : Numbering} {m : M} {s r : List (List ℕ)} → Unknown held prefix t m s r n u → depth ≡ most_open → Right prefix t (held m) → Sound depth splits t s (refused too-deep) splits u m
+  deep_sound : {depth splits n : ℕ} {t u : Numbering} {m : M} {s r : List (List ℕ)} → Unknown held prefix t m s r n u → depth ≡ most_open → Right prefix t (held m) → Sound depth splits t s (refused too_deep) splits u m
   deep_sound {r = r} un e right =
       let bg = begun (picked pick (candidates prefix r)) un refl right in
       let h = bg.halves.first_depth in (
         record {
-          right = λ c e. absurd (not_verdict too-deep c e);
+          right = λ c e. absurd (not_verdict too_deep c e);
           since = omega arith;
           most = omega arith;
           allowed = λ h. h;
@@ -326,7 +326,7 @@ module _ {M : Type 0} (held : M → Pairs) (notes : M → ℕ → Bool → M →
   unaided empty (full_reducing i) c f = absurd (not_verdict full c f)
   unaided empty (recalled {n = n} {m = m} i st k) c f = let e = empty m n in absurd (let z : ◌≡◌ {A = ℕ} 0 1 = cc in omega arith)
   unaided empty (by_allowance un e) c f = absurd (not_verdict spent c f)
-  unaided empty (by_depth un l e) c f = absurd (not_verdict too-deep c f)
+  unaided empty (by_depth un l e) c f = absurd (not_verdict too_deep c f)
   unaided empty (full_first sp stop) c f = absurd (not_verdict full c f)
   unaided empty (refused_first {f = g} sp mk d) c f = absurd (not_verdict g c f)
   unaided empty (first_only {x = x} {m = m} {r = r} {b} sp mk d en nt) c f =

@@ -13,7 +13,7 @@ use Rattle.qbf.specs.Value.{none}
 use Rattle.qbf.specs.Reduce.{Within, has_empty, Step, settled, forced, stuck, step, Outcome, decided, left, size}
 use Rattle.qbf.specs.Walk.{outermost, candidates, picked, ends}
 use Rattle.qbf.specs.Numbering.{Numbering, stands, Makes, Stops}
-use Rattle.qbf.specs.Decision.{Refusal, full, spent, too-deep, Ending, verdict, refused, most_open, ReducesIn, settles, sticks, forces, fills, Unknown, Splits, Decides, by_reducing, full_reducing, recalled, by_allowance, by_depth, full_first, refused_first, first_only, full_second, refused_second, both_sides}
+use Rattle.qbf.specs.Decision.{Refusal, full, spent, too_deep, Ending, verdict, refused, most_open, ReducesIn, settles, sticks, forces, fills, Unknown, Splits, Decides, by_reducing, full_reducing, recalled, by_allowance, by_depth, full_first, refused_first, first_only, full_second, refused_second, both_sides}
 use Rattle.qbf.specs.Run.{make, number, Lowered, lower_by, lower, Standing, try, noted, second, chosen, unknown, on_recall, on_outcome, run_within}
 use Rattle.theory.specs.Reducing.{Clean}
 use Rattle.theory.specs.Running.{RunsDecide}
@@ -183,7 +183,7 @@ module _ {M : Type 0} (held : M → Pairs) (note : M → ℕ → Bool → M) (pr
       go : (b : Bool) → eqb splits allowance ≡ b → (c : Bool) → eqb depth most_open ≡ c →
           Ran depth splits t m s
           (cond b (record { ending = refused spent; splits = splits; table = u; memo = m })
-          (cond c (record { ending = refused too-deep; splits = splits; table = u; memo = m }) (chosen held note prefix pick allowance next depth splits u m r (picked pick (candidates prefix r)))))
+          (cond c (record { ending = refused too_deep; splits = splits; table = u; memo = m }) (chosen held note prefix pick allowance next depth splits u m r (picked pick (candidates prefix r)))))
       go true e c g = record { decides = by_allowance un (grind (arith, nat_tests)); fit = f; allowed = ok }
       go false e true g = record { decides = by_depth un (let h : splits ≡ allowance → ⊥ = grind (arith, nat_tests) in omega arith) (grind (arith, nat_tests)); fit = f; allowed = ok }
       go false e false g =

@@ -8,7 +8,7 @@ use Rattle.qbf.specs.Chooser.{Picks}
 use Rattle.qbf.specs.Value.{value}
 use Rattle.qbf.specs.Walk.{bare}
 use Rattle.qbf.specs.Numbering.{Numbering, capacity, Among, Gains}
-use Rattle.qbf.specs.Decision.{Ending, verdict, refused, full, spent, too-deep, most_open, Decides, Right}
+use Rattle.qbf.specs.Decision.{Ending, verdict, refused, full, spent, too_deep, most_open, Decides, Right}
 
 -- the table is full of different sets, and lacks a node of one of the given ones
 pub record Overfull (sets : List (List (List ℕ))) (table : Numbering) : Type 0 where
@@ -28,7 +28,7 @@ pub record Judged (pick : List Candidate → ℕ) (prefix : List Quantifier) (al
   -- it is spent only at its allowance, and where the bare walk makes more splits than were left of it
   pub deserved : e ≡ refused spent → (done ≡ allowance) × (allowance < splits + (bare pick prefix s).splits)
   -- it is too deep only where the bare walk is
-  pub deep : e ≡ refused too-deep → most_open < depth + (bare pick prefix s).depth
+  pub deep : e ≡ refused too_deep → most_open < depth + (bare pick prefix s).depth
   -- the sets that it made are sets that the bare walk makes: the table gained only nodes of these
   pub gains : Gains before (bare pick prefix s).made after
   -- and is full only where one of these has a node more

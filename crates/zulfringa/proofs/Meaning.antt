@@ -6,7 +6,7 @@ use Rattle.qbf.specs.Nodes.{Crowded}
 use Rattle.qbf.specs.Value.{value}
 use Rattle.qbf.specs.Walk.{Walked, bare}
 use Rattle.qbf.specs.Numbering.{capacity}
-use Rattle.qbf.specs.Decision.{Refusal, full, spent, too-deep, most_open}
+use Rattle.qbf.specs.Decision.{Refusal, full, spent, too_deep, most_open}
 use Rattle.formula.specs.Views.{Reading}
 use Rattle.grammar.specs.declared.fault.ReadFault.{ReadFault}
 use Rattle.grammar.specs.Grammar.{Format}
@@ -58,7 +58,7 @@ abbrev DecisionMeans : Reading → DecideAnswer → Type 0
 DecisionMeans r (found b n) = (b ≡ text_value r) × (n ≤ (text_walk r).splits)
 DecisionMeans r (undecided full n) = Crowded capacity (all_sets r) × (n ≤ (text_walk r).splits)
 DecisionMeans r (undecided spent n) = (n ≡ most_allowed) × (most_allowed < (text_walk r).splits)
-DecisionMeans r (undecided too-deep n) = (most_open < (text_walk r).depth) × (n ≤ (text_walk r).splits)
+DecisionMeans r (undecided too_deep n) = (most_open < (text_walk r).depth) × (n ≤ (text_walk r).splits)
 DecisionMeans r nothing_to_decide = ⊥
 DecisionMeans r allowance_too_large = ⊥
 
@@ -89,7 +89,7 @@ decision_checks : (text : List ℕ) (r : Reading) → read_all text ≡ Ok r →
 decision_checks text r i (found b n) m e h = absurd (ok_err _ _ h)
 decision_checks text r i (undecided full n) m e h = subst (λ (x : Fault). Checks text (Err x)) (one_err _ _ h) (r, format_of text r i, m)
 decision_checks text r i (undecided spent n) m e h = subst (λ (x : Fault). Checks text (Err x)) (one_err _ _ h) (r, format_of text r i, m)
-decision_checks text r i (undecided too-deep n) m e h = subst (λ (x : Fault). Checks text (Err x)) (one_err _ _ h) (r, format_of text r i, m)
+decision_checks text r i (undecided too_deep n) m e h = subst (λ (x : Fault). Checks text (Err x)) (one_err _ _ h) (r, format_of text r i, m)
 decision_checks text r i nothing_to_decide m e h = absurd m
 decision_checks text r i allowance_too_large m e h = absurd m
 
