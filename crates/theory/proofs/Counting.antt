@@ -6,7 +6,7 @@ use Rattle.std.proofs.lemmas.Bool.{cond_both}
 use Rattle.qbf.specs.Lists.{In, Distinct}
 use Rattle.qbf.specs.Reduce.{size}
 use Rattle.qbf.specs.Nodes.{with_side, without_side, Node, node_itself, node_with, node_without, Crowded}
-use Rattle.qbf.specs.NodeList.{equal_by, same_set, listed, once, nodes_within, nodes, nodes_of_all}
+use Rattle.qbf.specs.NodeList.{equal_by, same_set, listed, once, nodes_within, nodes_of_all}
 use Rattle.sets.proofs.Words.{all_in}
 use Rattle.theory.specs.Running.{NodesListed}
 use Rattle.theory.proofs.Tables.{in_append, in_append_left, in_append_right}

@@ -66,11 +66,11 @@ pub fn walk_stands() -> u8
 
 // What a decision comes to, with any memo whose pairs are right, and what it comes to when it is repeated.
 pub fn decision_stands<M: Memo>() -> u8
-    ensures right { DecisionRight held notes }
-    ensures blank { DecisionBlank held notes }
-    ensures makes { DecisionMakes held notes }
-    ensures settles { DecisionSettles held notes }
-    ensures repeats { DecisionRepeats held notes }
+    ensures right { DecisionRight M.held M.notes }
+    ensures blank { DecisionBlank M.held M.notes }
+    ensures makes { DecisionMakes M.held M.notes }
+    ensures settles { DecisionSettles M.held M.notes }
+    ensures repeats { DecisionRepeats M.held M.notes }
 {
     0
 }
