@@ -17,8 +17,8 @@ pub mod last;
 
 // Notes a pair and recalls its number at once: the memo may have forgotten the verdict, but tells no other.
 pub fn recall_after_note<M: Memo>(memo: &mut M, number: u16, verdict: bool) -> Option<bool>
-    ensures noted { notes memo.old number verdict memo.new }
-    ensures told { result ≡ held memo.new number }
+    ensures noted { M.notes memo.old number verdict memo.new }
+    ensures told { result ≡ M.held memo.new number }
     ensures honest { (told : Bool) → result ≡ Some told → told ≡ verdict }
 {
     memo.note(number, verdict);
@@ -29,7 +29,7 @@ pub fn recall_after_note<M: Memo>(memo: &mut M, number: u16, verdict: bool) -> O
 pub fn split_position<C: Chooser>(chooser: &C, candidates: &[Candidate]) -> Option<u16>
     ensures { MatchOption result
         (length candidates.now ≡ 0)
-        (λ p. (p ≡ picks chooser.now candidates.now) × Listed p candidates.now) }
+        (λ p. (p ≡ C.picks chooser.now candidates.now) × Listed p candidates.now) }
 {
     if candidates.len() == 0 {
         return None;
