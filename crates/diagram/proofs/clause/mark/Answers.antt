@@ -16,8 +16,8 @@ small xs i lt a = All-get_or (λ x. x < 512) xs i 0 lt a
 pub bounds-at-code : goal.bounds-at-code
 bounds-at-code c = small c.args.codes.now c.loop-code.code-index (omega arith) c.requires
 
-pub overflow-add-end : goal.overflow-add-end
-overflow-add-end c = let low = small c.args.codes.now c.loop-code.code-index (omega arith) c.requires in omega arith
+pub overflow_add-end : goal.overflow_add-end
+overflow_add-end c = let low = small c.args.codes.now c.loop-code.code-index (omega arith) c.requires in omega arith
 
 -- the lower bound after the test
 lower : (c : Joined-code-end) → (c.if-code-low.low ≤ c.loop-code.low) × (c.if-code-low.low ≤ get_or c.args.codes.now c.loop-code.code-index 0)

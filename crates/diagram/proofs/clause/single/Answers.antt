@@ -32,22 +32,22 @@ make-requires c =
     let d = (goal.at.make-requires c).Then-marks-code in
     record {
       coded = omega (arith, c.mark-marks.ensures.coded, c.loop-code.auto.code, c.loop-code-test.true);
-      with-held = c.loop-code.invariant.is.held;
-      without-held = omega arith;
+      with_held = c.loop-code.invariant.is.held;
+      without_held = omega arith;
       with_over = link_over _ _ _ _ _ (rising_clause c.args.codes.now) (marked d) (chained d);
       without_over = none_over _ _ _ _ _ (rising_clause c.args.codes.now) (marked d) (chained d);
     }
 
-pub returns-in-err-clause : goal.returns-in-err-clause
-returns-in-err-clause c =
-    let d = (goal.at.returns-in-err-clause c).Then-marks-code in
-    let p = err_from_is_err_and c.from-residual.result c.from-residual.ensures.1 in
-    rw p.1 (chain_breaks _ _ _ _ _ (rising_clause c.args.codes.now) (marked d) (chained d) c.in-err-clause.ensures)
+pub returns-in_err-clause : goal.returns-in_err-clause
+returns-in_err-clause c =
+    let d = (goal.at.returns-in_err-clause c).Then-marks-code in
+    let p = err_from_is_err_and c.from_residual.result c.from_residual.ensures.1 in
+    rw p.1 (chain_breaks _ _ _ _ _ (rising_clause c.args.codes.now) (marked d) (chained d) c.in_err-clause.ensures)
 
 pub loop-code-preserved-then-marks-code : goal.loop-code-preserved-then-marks-code
 loop-code-preserved-then-marks-code c =
     let d = (goal.at.loop-code-preserved-then-marks-code c).Then-marks-code in
-    chain_grows _ _ _ _ _ (rising_clause c.args.codes.now) (marked d) (chained d) c.in-ok-clause.ensures
+    chain_grows _ _ _ _ _ (rising_clause c.args.codes.now) (marked d) (chained d) c.in_ok-clause.ensures
 
 pub loop-code-preserved : goal.loop-code-preserved
 loop-code-preserved c =

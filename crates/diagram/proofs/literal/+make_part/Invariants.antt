@@ -1,4 +1,4 @@
 use Rattle.diagram.proofs.literal.+make_part.Given as goal
 
-abbrev pub decreases-make-part : goal.decreases-make-part
-decreases-make-part l = l.number
+abbrev pub decreases-make_part : goal.decreases-make_part
+decreases-make_part l = l.number

@@ -15,8 +15,8 @@ loop-place-preserved c =
     let told = c.ne.ensures in
     let bs = c.args.bindings.now in
     let same_block : bound_at bs c.loop-place.place ≡ bound_at bs c.args.first = told_same _ told.0 _ told.1 told.2 c.if-ne.false in
-    let candidate = c.candidate-at-candidate.result in
-    let is = c.candidate-at-candidate.ensures in
+    let candidate = c.candidate_at-candidate.result in
+    let is = c.candidate_at-candidate.ensures in
     elim c.if-occurs.branch [
       | then-occurs w ↦ subst (Gathered _ _ _ _) (sym w.found-is)
           (gathered_more _ bs _ _ _ c.loop-place.invariant c.loop-place-test.true c.requires.few same_block candidate is _ c.occurs.ensures w.if-occurs.true _ w.push.ensures.list w.push.ensures.block)

@@ -5,36 +5,36 @@ use Rattle.reduction.specs.Tests.{lone_by}
 use Rattle.reduction.proofs.Steps.{line_empty, line_none, line_universal, line_unit, line_lone, line_stuck}
 use Rattle.reduction.proofs.step.fitting_line.Goals as goal
 
-pub returns-then-holds-empty : goal.returns-then-holds-empty
-returns-then-holds-empty c = line_empty c.args.table.now c.args.number (quantified c.args.bindings.now) _ c.holds-empty.ensures c.if-holds-empty.true
+pub returns-then-holds_empty : goal.returns-then-holds_empty
+returns-then-holds_empty c = line_empty c.args.table.now c.args.number (quantified c.args.bindings.now) _ c.holds_empty.ensures c.if-holds_empty.true
 
 pub returns-then-number-eq0 : goal.returns-then-number-eq0
-returns-then-number-eq0 c = line_none c.args.table.now c.args.number c.args.bindings.now _ c.holds-empty.ensures c.if-holds-empty.false c.if-number-eq0.true
+returns-then-number-eq0 c = line_none c.args.table.now c.args.number c.args.bindings.now _ c.holds_empty.ensures c.if-holds_empty.false c.if-number-eq0.true
 
 pub returns-in-Some : goal.returns-in-Some
 returns-in-Some c =
-    line_universal c.args.table.now c.args.number c.args.bindings.now _ c.holds-empty.ensures c.if-holds-empty.false
-    c.requires.ready.held c.requires.few c.if-number-eq0.false _ c.find-units-units.ensures _ c.in-Some.ensures
+    line_universal c.args.table.now c.args.number c.args.bindings.now _ c.holds_empty.ensures c.if-holds_empty.false
+    c.requires.ready.held c.requires.few c.if-number-eq0.false _ c.find_units-units.ensures _ c.in-Some.ensures
 
-pub returns-in-Some-lowest-unit : goal.returns-in-Some-lowest-unit
-returns-in-Some-lowest-unit c =
-    line_unit c.args.table.now c.args.number c.args.bindings.now _ c.holds-empty.ensures c.if-holds-empty.false
-    c.requires.ready.held c.requires.few c.if-number-eq0.false _ c.find-units-units.ensures c.in-default.ensures _ c.in-Some-lowest-unit.ensures
+pub returns-in-Some-lowest_unit : goal.returns-in-Some-lowest_unit
+returns-in-Some-lowest_unit c =
+    line_unit c.args.table.now c.args.number c.args.bindings.now _ c.holds_empty.ensures c.if-holds_empty.false
+    c.requires.ready.held c.requires.few c.if-number-eq0.false _ c.find_units-units.ensures c.in_default.ensures _ c.in-Some-lowest_unit.ensures
 
 pub bounds-bindings-literal : goal.bounds-bindings-literal
 bounds-bindings-literal c =
     let bs = c.args.bindings.now in
-    let h = lowest_below (lone_by c.count-literals-counts.result.at) (2 * length bs) 0 c.in-Some-lowest-lone.literal (sym c.in-Some-lowest-lone.ensures) in
+    let h = lowest_below (lone_by c.count_literals-counts.result.at) (2 * length bs) 0 c.in-Some-lowest_lone.literal (sym c.in-Some-lowest_lone.ensures) in
     omega arith
 
-pub returns-in-Some-lowest-lone : goal.returns-in-Some-lowest-lone
-returns-in-Some-lowest-lone c =
-    line_lone c.args.table.now c.args.number c.args.bindings.now _ c.holds-empty.ensures c.if-holds-empty.false
-    c.requires.ready.held c.requires.few c.if-number-eq0.false _ c.find-units-units.ensures c.in-default.ensures c.in-default-lowest-unit.ensures _ c.count-literals-counts.ensures
-    _ c.in-Some-lowest-lone.ensures _ _ c.favoured.ensures
+pub returns-in-Some-lowest_lone : goal.returns-in-Some-lowest_lone
+returns-in-Some-lowest_lone c =
+    line_lone c.args.table.now c.args.number c.args.bindings.now _ c.holds_empty.ensures c.if-holds_empty.false
+    c.requires.ready.held c.requires.few c.if-number-eq0.false _ c.find_units-units.ensures c.in_default.ensures c.in_default-lowest_unit.ensures _ c.count_literals-counts.ensures
+    _ c.in-Some-lowest_lone.ensures _ _ c.favoured.ensures
 
 pub returns-in-None : goal.returns-in-None
 returns-in-None c =
-    line_stuck c.args.table.now c.args.number c.args.bindings.now _ c.holds-empty.ensures c.if-holds-empty.false
-    c.requires.ready.held c.requires.few c.if-number-eq0.false _ c.find-units-units.ensures c.in-default.ensures c.in-default-lowest-unit.ensures _ c.count-literals-counts.ensures
+    line_stuck c.args.table.now c.args.number c.args.bindings.now _ c.holds_empty.ensures c.if-holds_empty.false
+    c.requires.ready.held c.requires.few c.if-number-eq0.false _ c.find_units-units.ensures c.in_default.ensures c.in_default-lowest_unit.ensures _ c.count_literals-counts.ensures
     c.in-None.ensures

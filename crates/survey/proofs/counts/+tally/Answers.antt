@@ -40,8 +40,8 @@ tally-without-requires t c =
       ),
     )
 
-pub overflow-add-result : goal.overflow-add-result
-overflow-add-result t c =
+pub overflow_add-result : goal.overflow_add-result
+overflow_add-result t c =
     let e = tallies.total c.args.table.now c.args.number c.node-node.result c.node-node.ensures c.args.counts.now.at c.requires.room in
     let r = c.requires.room 0 (omega arith) in
     omega (arith, c.tally-with.ensures.total, c.tally-without.ensures.total)
