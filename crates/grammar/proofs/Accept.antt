@@ -1,6 +1,6 @@
 -- A text that is read has the format.
-use Rattle.std.proofs.Common.{◌≡◌, ℕ, ◌-◌, ◌<◌, ◌≤◌, Bool, true, false, cond, ◌&&◌, eqb, ltb, List, [], ◌∷◌, ◌++◌, map, length, Ok, Err, decimal, Result, sym, refl, ap, ◌∙◌, subst, arith}
-use Rattle.std.proofs.lemmas.Bool.{both_ways, false≢true, cond-true, cond-false, ltb-true, ltb-false, eqb-true, and_parts}
+use Rattle.std.proofs.Common.{◌≡◌, ℕ, ◌<◌, ◌≤◌, Bool, true, false, ◌&&◌, ltb, List, [], ◌∷◌, ◌++◌, length, Ok, Err, sym, refl, ap, ◌∙◌, subst, arith}
+use Rattle.std.proofs.lemmas.Bool.{false≢true, cond-true, cond-false, ltb-false, eqb-true, and_parts}
 use Rattle.qbf.specs.Lists.{Distinct}
 use Rattle.words.specs.Words.{Token, words_of}
 use Rattle.words.proofs.Decimal.{stands}
@@ -11,15 +11,14 @@ use Rattle.grammar.specs.declared.place.Place.{Place}
 use Rattle.grammar.specs.declared.place.Place.TheVariants.{Problem, Format, Variables, Count, Line, FirstVariable, NextVariable, Between, Within}
 use Rattle.grammar.specs.Grammar.{ProblemLine, PrefixLines, Clauses, Format as HasFormat}
 use Rattle.grammar.specs.Grammar.ProblemLine.{problem_line}
-use Rattle.grammar.specs.Places.{Draft, empty, with_variables, with_declared, InClauses, begins, Counted, Goes, Leads}
+use Rattle.grammar.specs.Places.{Draft, empty, with_variables, with_declared, InClauses, begins, Counted, Leads}
 use Rattle.grammar.specs.Places.Goes.{goes_problem, goes_format, goes_variables, goes_count, goes_quantifier, goes_first, goes_next, goes_line, goes_literal, goes_clause}
 use Rattle.grammar.specs.Places.Leads.{here, on}
 use Rattle.grammar.specs.Refusals.{rests, ended}
 use Rattle.grammar.specs.Steps.{Next, Answer, stepped, refuse, reading_of, finish, after, read_from, read_all}
-use Rattle.grammar.specs.Stored.{store_all}
 use Rattle.grammar.proofs.Bindings.{not_bound, distinct_more}
 use Rattle.grammar.proofs.Stands.{step_goes}
-use Rattle.grammar.proofs.Tails.{tail, LineRest}
+use Rattle.grammar.proofs.Tails.{tail}
 
 -- the words lead to a good end
 record Reaches (text : List ℕ) (p : Place) (d : Draft) (ws : List Token) (f : Reading) : Type 0 where

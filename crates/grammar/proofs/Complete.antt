@@ -1,29 +1,28 @@
 -- A text of the format is read.
-use Rattle.std.proofs.Common.{◌≡◌, ℕ, ◌+◌, ◌-◌, ◌<◌, ◌≤◌, Bool, true, false, cond, ◌&&◌, eqb, ltb, List, [], ◌∷◌, ◌++◌, map, length, Some, None, Ok, Err, decimal, sym, refl, ap, ◌∙◌, subst, append_assoc, append-nil, arith}
+use Rattle.std.proofs.Common.{◌≡◌, ℕ, ◌+◌, ◌<◌, ◌≤◌, true, false, cond, ltb, List, [], ◌∷◌, ◌++◌, map, length, Some, None, Ok, decimal, sym, refl, ap, ◌∙◌, subst, append_assoc, append-nil, arith}
 use Rattle.std.proofs.lemmas.Bool.{false≢true, cond-true, cond-false, le-ltb, eq-eqb, and_from}
 use Rattle.std.specs.List.{AllByRecursion}
 use Rattle.qbf.specs.declared.Quantifier.{Quantifier}
 use Rattle.qbf.specs.Lists.{Distinct}
-use Rattle.words.specs.declared.literals.Literal.{Literal}
 use Rattle.words.specs.Numbers.{read_number, read_literal}
-use Rattle.words.specs.Words.{Token, words_of}
+use Rattle.words.specs.Words.{Token}
 use Rattle.words.proofs.Decimal.{stands}
 use Rattle.formula.specs.declared.prefix.Binding.{Binding}
 use Rattle.formula.specs.Positions.{variables_of, position}
 use Rattle.formula.specs.Views.{Reading}
 use Rattle.grammar.specs.declared.place.Place.{Place}
-use Rattle.grammar.specs.declared.place.Place.TheVariants.{Problem, Format, Variables, Count, Line, FirstVariable, NextVariable, Between, Within}
+use Rattle.grammar.specs.declared.place.Place.TheVariants.{Problem, Line, FirstVariable, NextVariable, Between, Within}
 use Rattle.grammar.specs.Grammar.{bind, Coded, OnNewLine, ProblemLine, Variables as VariableWords, PrefixLines, Clause, Clauses, Format as HasFormat}
 use Rattle.grammar.specs.Grammar.ProblemLine.{problem_line}
 use Rattle.grammar.specs.Grammar.Variables.{end as variables_end, variable}
 use Rattle.grammar.specs.Grammar.PrefixLines.{none as no_lines, line}
 use Rattle.grammar.specs.Grammar.Clause.{end as clause_end, literal}
 use Rattle.grammar.specs.Grammar.Clauses.{none as no_clauses, more}
-use Rattle.grammar.specs.Places.{Draft, empty, with_variables, with_declared, with_binding, with_literal, with_clause, InClauses, begins, Goes, Leads}
+use Rattle.grammar.specs.Places.{Draft, empty, with_variables, with_declared, with_binding, with_literal, InClauses, begins, Goes, Leads}
 use Rattle.grammar.specs.Places.Goes.{goes_problem, goes_format, goes_variables, goes_count, goes_quantifier, goes_first, goes_next, goes_line, goes_literal, goes_clause}
 use Rattle.grammar.specs.Places.Leads.{here, on}
 use Rattle.grammar.specs.Refusals.{rests, ended}
-use Rattle.grammar.specs.Steps.{Answer, refuse, reading_of, finish, read_from, read_all}
+use Rattle.grammar.specs.Steps.{refuse, reading_of, read_from, read_all}
 use Rattle.grammar.specs.declared.fault.Rule.TheVariants.{ClauseCount}
 use Rattle.grammar.specs.Stored.{store, store_all}
 use Rattle.grammar.proofs.Bindings.{is_not_bound, new_here}

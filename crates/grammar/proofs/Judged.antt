@@ -1,5 +1,5 @@
 -- What the answer of a step says of the rules.
-use Rattle.std.proofs.Common.{◌≡◌, ℕ, ◌<◌, ◌≤◌, Bool, true, false, cond, Ok, Err, Result, sym, refl, ap, ◌∙◌, subst, arith}
+use Rattle.std.proofs.Common.{◌≡◌, ℕ, ◌≤◌, Bool, true, false, Ok, Err, sym, refl, ◌∙◌, subst, arith}
 use Rattle.std.proofs.lemmas.Bool.{false≢true, cond-true}
 use Rattle.words.specs.Words.{Token}
 use Rattle.grammar.specs.declared.fault.Rule.{Rule}
@@ -8,7 +8,7 @@ use Rattle.grammar.specs.declared.place.Place.{Place}
 use Rattle.grammar.specs.Places.{Draft}
 use Rattle.grammar.specs.Refusals.{misplaced, out_of_range, bound_twice, unbound, one_too_many, breaks}
 use Rattle.grammar.specs.Rules.{number_of}
-use Rattle.grammar.specs.Steps.{Next, stepped}
+use Rattle.grammar.specs.Steps.{stepped}
 use Rattle.grammar.proofs.Ranks.{ranked, target, rank}
 
 -- the test of a rule, of the tests of all

@@ -1,22 +1,19 @@
 -- A word leads on exactly where it stands right.
-use Rattle.std.proofs.Common.{◌≡◌, ℕ, ◌<◌, ◌≤◌, Bool, true, false, cond, not, ◌&&◌, ◌||◌, eqb, ltb, List, [], ◌∷◌, is_some, Some, None, Ok, Err, Option, Result, sym, refl, ap, ◌∙◌, subst, arith}
-use Rattle.std.proofs.lemmas.Bool.{both_ways, false≢true, not-false, not-true, or_parts, and_cases, and_parts, and_from, cond-true, cond-false, eqb-true, eqb-false, eq-eqb, ne_eqb, ltb-true, lt-ltb, le-ltb, not_from_false, not_from_true, cases_Bool}
-use Rattle.std.proofs.lemmas.Bool.Decides.{nat_tests}
+use Rattle.std.proofs.Common.{◌≡◌, ℕ, ◌<◌, Bool, true, false, not, ◌&&◌, ltb, List, is_some, Some, None, Ok, sym, refl, ap, ◌∙◌, arith}
+use Rattle.std.proofs.lemmas.Bool.{and_from, cond-true, cond-false, ne_eqb, lt-ltb, le-ltb, not_from_false, not_from_true}
 use Rattle.std.proofs.lemmas.Slice.Eq.{bytes_eq-Decides}
 use Rattle.std.specs.Str.{bytes_eq}
 use Rattle.qbf.specs.declared.Quantifier.{Quantifier}
 use Rattle.qbf.specs.declared.Quantifier.TheVariants.{Existential, Universal}
 use Rattle.words.specs.declared.literals.Literal.{Literal}
-use Rattle.words.specs.Numbers.{numeral, value_of, number_out_of_range, read_number, read_literal, unsigned}
+use Rattle.words.specs.Numbers.{read_number, read_literal, unsigned}
 use Rattle.words.specs.Words.{Token}
-use Rattle.formula.specs.Positions.{position}
-use Rattle.grammar.specs.declared.fault.Rule.{Rule}
 use Rattle.grammar.specs.declared.place.Place.{Place}
 use Rattle.grammar.specs.declared.place.Place.TheVariants.{Problem, Format, Variables, Count, Line, FirstVariable, NextVariable, Between, Within}
-use Rattle.grammar.specs.Grammar.{p_word, cnf_word, zero_word, letter, code_at, Coded}
-use Rattle.grammar.specs.Places.{Draft, with_variables, with_declared, with_binding, with_literal, with_clause, InClauses, begins, Goes}
+use Rattle.grammar.specs.Grammar.{zero_word, letter}
+use Rattle.grammar.specs.Places.{Draft, with_literal, InClauses, begins, Goes}
 use Rattle.grammar.specs.Places.Goes.{goes_problem, goes_format, goes_variables, goes_count, goes_quantifier, goes_first, goes_next, goes_line, goes_literal, goes_clause}
-use Rattle.grammar.specs.Steps.{Next, on_variables, on_count, on_variable, on_literal, on_clause_word, clause_word, stepped}
+use Rattle.grammar.specs.Steps.{on_variables, on_count, on_variable, on_literal, on_clause_word, clause_word, stepped}
 
 same : (xs ys : List ℕ) → xs ≡ ys → bytes_eq xs ys ≡ true
 same xs ys e = (bytes_eq-Decides xs ys).1 e

@@ -1,7 +1,6 @@
 -- A step tells the lowest rule that the word breaks.
-use Rattle.std.proofs.Common.{◌≡◌, ℕ, ◌<◌, ◌≤◌, Bool, true, false, cond, not, ◌&&◌, ◌||◌, eqb, ltb, List, [], ◌∷◌, is_some, Some, None, Ok, Err, Option, Result, sym, refl, ap, ◌∙◌, subst, arith}
-use Rattle.std.proofs.lemmas.Bool.{both_ways, false≢true, eqb-true, cond-true, cond-false}
-use Rattle.std.proofs.lemmas.Bool.Decides.{nat_tests}
+use Rattle.std.proofs.Common.{◌≡◌, ℕ, Bool, true, false, cond, not, ◌&&◌, ◌||◌, eqb, ltb, List, [], ◌∷◌, is_some, Some, None, Ok, Err, Option, Result, sym, refl, ap, ◌∙◌}
+use Rattle.std.proofs.lemmas.Bool.{both_ways, eqb-true, cond-true, cond-false}
 use Rattle.std.proofs.lemmas.Slice.Eq.{bytes_eq-Decides}
 use Rattle.std.specs.Str.{bytes_eq}
 use Rattle.qbf.specs.declared.Quantifier.{Quantifier}
@@ -12,15 +11,13 @@ use Rattle.words.specs.declared.numbers.NumberFault.TheVariants.{NotANumber, Out
 use Rattle.words.specs.Numbers.{numeral, value_of, number_out_of_range, read_number, read_literal, unsigned, negated}
 use Rattle.words.specs.Words.{Token}
 use Rattle.formula.specs.Positions.{position}
-use Rattle.grammar.specs.declared.fault.Rule.{Rule}
-use Rattle.grammar.specs.declared.fault.Rule.TheVariants.{TooLong, Misplaced, OutOfRange, BoundTwice, Unbound, ClauseCount}
+use Rattle.grammar.specs.declared.fault.Rule.TheVariants.{Misplaced, OutOfRange, BoundTwice, Unbound, ClauseCount}
 use Rattle.grammar.specs.declared.place.Place.{Place}
 use Rattle.grammar.specs.declared.place.Place.TheVariants.{Problem, Format, Variables, Count, Line, FirstVariable, NextVariable, Between, Within}
 use Rattle.grammar.specs.Grammar.{p_word, cnf_word, letter, code_at}
 use Rattle.grammar.specs.Places.{Draft, with_variables, with_declared, with_binding, with_literal, with_clause}
-use Rattle.grammar.specs.Refusals.{literal, magnitude, misplaced, out_of_range, bound_twice, unbound, one_too_many, breaks}
-use Rattle.grammar.specs.Rules.{number_of}
-use Rattle.grammar.specs.Steps.{Next, fault_of, on_variables, on_count, on_variable, on_literal, on_clause_word, clause_word, stepped}
+use Rattle.grammar.specs.Refusals.{literal, magnitude, misplaced, out_of_range, bound_twice, unbound, one_too_many}
+use Rattle.grammar.specs.Steps.{Next, on_variables, on_count, on_variable, on_literal, on_clause_word, clause_word, stepped}
 use Rattle.grammar.proofs.Zeros.{zero_only, zero_in_range}
 
 -- the lowest of the rules that are broken, or where the word leads

@@ -1,8 +1,7 @@
 -- Reading word by word refuses a text exactly as the rules say.
-use Rattle.std.proofs.Common.{◌≡◌, ℕ, ◌<◌, ◌≤◌, Bool, true, false, cond, not, ◌&&◌, eqb, ltb, ◌⊎◌, List, [], ◌∷◌, ◌++◌, length, Ok, Err, Result, sym, refl, ap, ◌∙◌, subst, inl, inr, ⊎_elim, append-nil, arith}
-use Rattle.std.proofs.lemmas.Bool.{both_ways, false≢true, cond-true, cond-false, ltb-true, ltb-false, lt-ltb, le-ltb, not-true, not_from_true, not_from_false}
+use Rattle.std.proofs.Common.{◌≡◌, ℕ, ◌<◌, ◌≤◌, Bool, true, false, cond, ◌&&◌, eqb, ltb, List, [], ◌∷◌, ◌++◌, length, Ok, Err, sym, refl, ap, ◌∙◌, subst, inr, ⊎_elim, append-nil, arith}
+use Rattle.std.proofs.lemmas.Bool.{false≢true, cond-true, cond-false, ltb-true, ltb-false, lt-ltb, le-ltb, not-true, not_from_false}
 use Rattle.words.specs.Words.{Token, words_of}
-use Rattle.formula.specs.Views.{Reading}
 use Rattle.grammar.specs.declared.fault.ReadFault.{ReadFault}
 use Rattle.grammar.specs.declared.fault.Rule.{Rule}
 use Rattle.grammar.specs.declared.fault.Rule.TheVariants.{TooLong, Misplaced, OutOfRange, BoundTwice, Unbound, ClauseCount}
@@ -13,7 +12,7 @@ use Rattle.grammar.specs.Places.Leads.{here, on}
 use Rattle.grammar.specs.Refusals.{breaks, breaks_at_end, rests, ended, Broken, Refused}
 use Rattle.grammar.specs.Refusals.Broken.{too_long, at_word, at_end}
 use Rattle.grammar.specs.Rules.{number_of}
-use Rattle.grammar.specs.Steps.{Next, Answer, stepped, refuse, reading_of, finish, after, read_from, read_all}
+use Rattle.grammar.specs.Steps.{Next, Answer, stepped, refuse, finish, after, read_from, read_all}
 use Rattle.grammar.proofs.Judged.{step_refuses, step_broken}
 use Rattle.grammar.proofs.Moves.{goes_step}
 use Rattle.grammar.proofs.Stands.{step_goes}

@@ -1,17 +1,16 @@
 -- A word that breaks no rule stands right.
-use Rattle.std.proofs.Common.{◌≡◌, ℕ, ◌<◌, ◌≤◌, Bool, true, false, cond, not, ◌&&◌, ◌||◌, eqb, ltb, List, [], ◌∷◌, is_some, Some, None, Ok, Err, Option, sym, refl, ap, ◌∙◌, subst, ⊎_elim, arith}
-use Rattle.std.proofs.lemmas.Bool.{both_ways, false≢true, not-false, not-true, or_parts, and_cases, and_parts, cond-true, cond-false, eqb-true, eqb-false, ltb-true}
+use Rattle.std.proofs.Common.{◌≡◌, ℕ, ◌<◌, Bool, true, false, cond, not, ◌&&◌, ◌||◌, eqb, ltb, List, [], ◌∷◌, is_some, Some, None, Ok, Option, sym, refl, ap, ◌∙◌, subst, arith}
+use Rattle.std.proofs.lemmas.Bool.{both_ways, false≢true, not-false, not-true, or_parts, and_parts, cond-true, cond-false, eqb-true, eqb-false, ltb-true}
 use Rattle.std.proofs.lemmas.Slice.Eq.{bytes_eq-Decides}
 use Rattle.std.specs.Str.{bytes_eq}
-use Rattle.qbf.specs.declared.Quantifier.{Quantifier}
 use Rattle.qbf.specs.declared.Quantifier.TheVariants.{Existential, Universal}
 use Rattle.words.specs.Numbers.{numeral, value_of, number_out_of_range, read_number, read_literal}
 use Rattle.words.specs.Words.{Token}
 use Rattle.formula.specs.Positions.{position}
 use Rattle.grammar.specs.declared.place.Place.{Place}
 use Rattle.grammar.specs.declared.place.Place.TheVariants.{Problem, Format, Variables, Count, Line, FirstVariable, NextVariable, Between, Within}
-use Rattle.grammar.specs.Grammar.{p_word, cnf_word, zero_word, letter, code_at}
-use Rattle.grammar.specs.Places.{Draft, with_variables, with_declared, with_binding, with_literal, with_clause, InClauses, begins, Goes}
+use Rattle.grammar.specs.Grammar.{p_word, cnf_word, zero_word, letter}
+use Rattle.grammar.specs.Places.{Draft, InClauses, begins, Goes}
 use Rattle.grammar.specs.Places.Goes.{goes_problem, goes_format, goes_variables, goes_count, goes_quantifier, goes_first, goes_next, goes_line, goes_literal, goes_clause}
 use Rattle.grammar.specs.Refusals.{literal, magnitude}
 use Rattle.grammar.specs.Steps.{stepped}

@@ -1,5 +1,5 @@
 -- Which clauses are stored.
-use Rattle.std.proofs.Common.{◌≡◌, ℕ, Bool, true, false, cond, ◌||◌, ◌⊎◌, List, [], ◌∷◌, ◌++◌, map, sym, refl, ap, ◌∙◌, subst, inl, inr, ⊎_elim, append_assoc, append-nil}
+use Rattle.std.proofs.Common.{◌≡◌, ℕ, Bool, true, false, ◌⊎◌, List, [], ◌∷◌, ◌++◌, map, sym, refl, ap, ◌∙◌, subst, inl, inr, ⊎_elim, append_assoc, append-nil}
 use Rattle.std.proofs.ByRecursion.{All-push}
 use Rattle.std.proofs.lemmas.Bool.{both_ways, false≢true, cond-true, cond-false, or_cases, or_parts}
 use Rattle.std.specs.List.{AllByRecursion}
@@ -7,7 +7,7 @@ use Rattle.qbf.specs.Lists.{In}
 use Rattle.clause.specs.Once.{once, both_signs, same_set}
 use Rattle.clause.proofs.Sets.{once_out, signs, same_itself, same_turned}
 use Rattle.grammar.specs.Stored.{repeated, store, store_all}
-use Rattle.grammar.specs.Theorems.{LeavesOut, Unlike, Stores, StoredStands}
+use Rattle.grammar.specs.Theorems.{LeavesOut, Unlike, StoredStands}
 use Rattle.grammar.specs.Theorems.LeavesOut.{done, keeps, skips}
 
 -- a clause is left out, for one of two reasons, or stored

@@ -1,21 +1,21 @@
 -- Words that stand right up to a good end are what the grammar says.
-use Rattle.std.proofs.Common.{◌≡◌, ℕ, ◌+◌, ◌<◌, ◌≤◌, Bool, true, false, cond, ◌⊎◌, List, [], ◌∷◌, ◌++◌, map, length, Some, None, Ok, Err, decimal, sym, refl, ap, ◌∙◌, subst, inl, inr, ⊎_elim, append_assoc, append-nil, arith}
-use Rattle.std.proofs.lemmas.Bool.{both_ways, false≢true}
+use Rattle.std.proofs.Common.{◌≡◌, ℕ, ◌+◌, ◌<◌, ◌≤◌, true, false, List, [], ◌∷◌, ◌++◌, map, length, Some, Ok, sym, refl, ap, ◌∙◌, subst, append_assoc, append-nil, arith}
+use Rattle.std.proofs.lemmas.Bool.{false≢true}
 use Rattle.std.specs.List.{AllByRecursion}
 use Rattle.qbf.specs.declared.Quantifier.{Quantifier}
 use Rattle.words.specs.declared.literals.Literal.{Literal}
-use Rattle.words.specs.Numbers.{read_number, read_literal, written}
+use Rattle.words.specs.Numbers.{read_number, read_literal}
 use Rattle.words.specs.Words.{Token}
 use Rattle.words.proofs.Decimal.{stands}
 use Rattle.formula.specs.declared.prefix.Binding.{Binding}
 use Rattle.grammar.specs.declared.place.Place.{Place}
 use Rattle.grammar.specs.declared.place.Place.TheVariants.{Problem, Format, Variables, Count, Line, FirstVariable, NextVariable, Between, Within}
-use Rattle.grammar.specs.Grammar.{zero_word, letter, bind, Coded, OnOneLine, OnNewLine, Variables as VariableWords, PrefixLines, Clause, Clauses}
+use Rattle.grammar.specs.Grammar.{zero_word, letter, bind, Coded, OnNewLine, Variables as VariableWords, PrefixLines, Clause, Clauses}
 use Rattle.grammar.specs.Grammar.Variables.{end as variables_end, variable}
 use Rattle.grammar.specs.Grammar.PrefixLines.{none as no_lines, line}
 use Rattle.grammar.specs.Grammar.Clause.{end as clause_end, literal}
 use Rattle.grammar.specs.Grammar.Clauses.{none as no_clauses, more}
-use Rattle.grammar.specs.Places.{Draft, with_binding, with_literal, with_clause, InClauses, begins, Goes, Leads}
+use Rattle.grammar.specs.Places.{Draft, with_binding, with_literal, with_clause, Leads}
 use Rattle.grammar.specs.Places.Goes.{goes_problem, goes_format, goes_variables, goes_count, goes_quantifier, goes_first, goes_next, goes_line, goes_literal, goes_clause}
 use Rattle.grammar.specs.Places.Leads.{here, on}
 use Rattle.grammar.specs.Refusals.{rests}

@@ -1,12 +1,12 @@
 -- The theorems on whole texts.
-use Rattle.std.proofs.Common.{◌≡◌, ℕ, ◌⊎◌, List, Ok, Err, sym, refl, ap, ◌∙◌, subst, inl, inr, arith}
+use Rattle.std.proofs.Common.{◌≡◌, ℕ, ◌⊎◌, List, Ok, Err, refl, ap, inl, inr, arith}
 use Rattle.formula.specs.Views.{Reading}
 use Rattle.grammar.specs.declared.fault.ReadFault.{ReadFault}
 use Rattle.grammar.specs.declared.fault.Rule.{Rule}
 use Rattle.grammar.specs.Grammar.{Format}
 use Rattle.grammar.specs.Refusals.{Refused}
-use Rattle.grammar.specs.Steps.{Answer, refuse, read_all}
-use Rattle.grammar.specs.Theorems.{Answers, ReadingStands, Decided, TextsStand}
+use Rattle.grammar.specs.Steps.{Answer, read_all}
+use Rattle.grammar.specs.Theorems.{ReadingStands, TextsStand}
 use Rattle.grammar.proofs.Accept.{ok_format}
 use Rattle.grammar.proofs.Complete.{format_ok}
 use Rattle.grammar.proofs.Refuse.{err_refused, refused_err}

@@ -1,5 +1,5 @@
 -- The places of a text's words: how each word, in its place, leads on to the next place.
-use Rattle.std.specs.Prelude.{◌≡◌, ℕ, ◌+◌, ◌<◌, ◌≤◌, Bool, true, false, List, [], ◌∷◌, ◌++◌, Some, None, Ok, Err}
+use Rattle.std.specs.Prelude.{◌≡◌, ℕ, ◌+◌, ◌<◌, ◌≤◌, Bool, true, false, List, [], ◌∷◌, ◌++◌, Some, None, Ok}
 use Rattle.qbf.specs.declared.Quantifier.{Quantifier}
 use Rattle.words.specs.declared.literals.Literal.{Literal}
 use Rattle.words.specs.Numbers.{read_number, read_literal}

@@ -10,7 +10,7 @@ use Rattle.grammar.specs.declared.fault.Rule.{Rule}
 use Rattle.grammar.specs.declared.fault.Rule.TheVariants.{TooLong, Misplaced, OutOfRange, BoundTwice, Unbound, ClauseCount}
 use Rattle.grammar.specs.declared.place.Place.{Place}
 use Rattle.grammar.specs.declared.place.Place.TheVariants.{Problem, Format, Variables, Count, Line, FirstVariable, NextVariable, Between, Within}
-use Rattle.grammar.specs.Grammar.{p_word, cnf_word, zero_word, letter}
+use Rattle.grammar.specs.Grammar.{p_word, cnf_word, letter}
 use Rattle.grammar.specs.Places.{Draft, empty, begins, Leads}
 use Rattle.grammar.specs.Rules.{number_of}
 

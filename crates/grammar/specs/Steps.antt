@@ -16,7 +16,7 @@ use Rattle.grammar.specs.declared.fault.Rule.TheVariants.{TooLong, Misplaced, Ou
 use Rattle.grammar.specs.declared.place.Place.{Place}
 use Rattle.grammar.specs.declared.place.Place.TheVariants.{Problem, Format, Variables, Count, Line, FirstVariable, NextVariable, Between, Within}
 use Rattle.grammar.specs.Grammar.{p_word, cnf_word, letter, code_at}
-use Rattle.grammar.specs.Places.{Draft, empty, with_variables, with_declared, with_binding, with_literal, with_clause, begins}
+use Rattle.grammar.specs.Places.{Draft, empty, with_variables, with_declared, with_binding, with_literal, with_clause}
 use Rattle.grammar.specs.Refusals.{ended, rests}
 
 abbrev pub Next : Type 0

@@ -1,5 +1,5 @@
 -- What is proved of the format.
-use Rattle.std.specs.Prelude.{◌≡◌, ℕ, true, false, ◌⊎◌, List, [], ◌∷◌, ◌++◌, map, Ok, Err}
+use Rattle.std.specs.Prelude.{◌≡◌, ℕ, true, false, ◌⊎◌, List, [], ◌∷◌, map, Ok, Err}
 use Rattle.std.specs.List.{AllByRecursion}
 use Rattle.qbf.specs.Lists.{In}
 use Rattle.clause.specs.Once.{once, both_signs, same_set}
