@@ -4,5 +4,5 @@ use Rattle.replaying.proofs.telling.tell.Goals as goal
 
 pub returns : goal.returns
 returns c =
-    put_behind (vec_items c.args.out.now) (vec_items c.extend-from-slice.new.self) (vec_items c.extend-from-slice-2.new.self) c.as-bytes.result.now _ c.args.text.now
-    c.in-ok-extend-from-slice.ensures.items (c.as-bytes.ensures.value ∙ c.in-ok-line.ensures.ok) c.in-ok-extend-from-slice-2.ensures.items
+    put_behind (vec_items c.args.out.now) (vec_items c.extend_from_slice.new.self) (vec_items c.extend_from_slice-2.new.self) c.as_bytes.result.now _ c.args.text.now
+    c.in_ok-extend_from_slice.ensures.items (c.as_bytes.ensures.value ∙ c.in_ok-line.ensures.ok) c.in_ok-extend_from_slice-2.ensures.items

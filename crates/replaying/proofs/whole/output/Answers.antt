@@ -2,13 +2,13 @@ use Rattle.std.proofs.Common.{vec_items, ap, ◌∙◌}
 use Rattle.replaying.proofs.Scripts.{not_made, made_so}
 use Rattle.replaying.proofs.whole.output.Goals as goal
 
-pub returns-in-default : goal.returns-in-default
-returns-in-default c =
-    not_made c.args.input.now (vec_items c.into-bytes.result) c.in-ok-script.script c.in-ok-script.ensures c.in-default.is
-    (ap vec_items c.into-bytes.ensures.value ∙ c.in-ok-stop-line.ensures)
+pub returns-in_default : goal.returns-in_default
+returns-in_default c =
+    not_made c.args.input.now (vec_items c.into_bytes.result) c.in_ok-script.script c.in_ok-script.ensures c.in_default.is
+    (ap vec_items c.into_bytes.ensures.value ∙ c.in_ok-stop_line.ensures)
 
 pub returns : goal.returns
 returns c =
-    made_so c.args.input.now (vec_items c.tell-end.new.out) c.in-ok-script.script c.in-ok-script.ensures
-    c.in-Some.make c.in-ok-transcript.transcript c.as-slice.result.now c.as-slice-2.result.now c.as-slice-3.result.now (vec_items c.in-ok-out.out) c.in-Some.is
-    c.as-slice.ensures.value c.in-ok-transcript.ensures c.as-slice-2.ensures.value c.as-slice-3.ensures.value c.in-ok-out.ensures c.in-ok-tell-end.ensures
+    made_so c.args.input.now (vec_items c.tell_end.new.out) c.in_ok-script.script c.in_ok-script.ensures
+    c.in-Some.make c.in_ok-transcript.transcript c.as_slice.result.now c.as_slice-2.result.now c.as_slice-3.result.now (vec_items c.in_ok-out.out) c.in-Some.is
+    c.as_slice.ensures.value c.in_ok-transcript.ensures c.as_slice-2.ensures.value c.as_slice-3.ensures.value c.in_ok-out.ensures c.in_ok-tell_end.ensures

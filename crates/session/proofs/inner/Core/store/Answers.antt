@@ -8,31 +8,31 @@ use Rattle.writer.proofs.Facts.{stored_coded, set_within, set_few}
 use Rattle.session.proofs.Cores.{formula_kept, bound_by, stored_held, stored_few, stored_within}
 use Rattle.session.proofs.inner.Core.store.Goals as goal
 
-pub store-clauses-requires : goal.store-clauses-requires
-store-clauses-requires c = stored_coded c.args.formula.now c.requires.read.1
+pub store_clauses-requires : goal.store_clauses-requires
+store_clauses-requires c = stored_coded c.args.formula.now c.requires.read.1
 
-pub returns-in-err-number : goal.returns-in-err-number
-returns-in-err-number c =
-    let p = err_from_is_err_and c.from-residual.result c.from-residual.ensures.1 in
+pub returns-in_err-number : goal.returns-in_err-number
+returns-in_err-number c =
+    let p = err_from_is_err_and c.from_residual.result c.from_residual.ensures.1 in
     let core = c.args.self.now in
-    let stopped = c.in-err-number.ensures.cases in
+    let stopped = c.in_err-number.ensures.cases in
     record {
       prefix = refl;
       stores = rw p.1 (
-        stopped_stops core.table _ c.store-clauses.new.table stopped,
-        formula_kept core.table c.store-clauses.new.table core.formula (adds_kept core.table _ c.store-clauses.new.table stopped.grows) core.held,
+        stopped_stops core.table _ c.store_clauses.new.table stopped,
+        formula_kept core.table c.store_clauses.new.table core.formula (adds_kept core.table _ c.store_clauses.new.table stopped.grows) core.held,
       );
     }
 
-pub invariant-of-self-2 : goal.invariant-of-self-2
-invariant-of-self-2 c =
+pub invariant_of-self-2 : goal.invariant_of-self-2
+invariant_of-self-2 c =
     let under = c.requires.under in
     let prefix = c.args.self.now.prefix in
     let f = c.args.formula.now in
     let read = c.requires.read.1 in
-    let is = c.in-ok-number.ensures.cases.1 in
-    let u = c.store-clauses.new.table in
-    let stored : Stored = record { variables = f.variables; number = c.in-ok-number.number } in (
+    let is = c.in_ok-number.ensures.cases.1 in
+    let u = c.store_clauses.new.table in
+    let stored : Stored = record { variables = f.variables; number = c.in_ok-number.number } in (
       λ g e. bound_by prefix (bindings_of f.prefix) under,
       (
         λ g e. stored_held u prefix (bindings_of f.prefix) stored under g e is.held,
@@ -49,11 +49,11 @@ invariant-of-self-2 c =
 pub returns : goal.returns
 returns c =
     let core = c.args.self.now in
-    let cases = c.in-ok-number.ensures.cases in
+    let cases = c.in_ok-number.ensures.cases in
     record {
       prefix = refl;
       stores = (
-        made_makes core.table _ c.store-clauses.new.table cases.0,
+        made_makes core.table _ c.store_clauses.new.table cases.0,
         ap (λ (s : List (List ℕ)). Some (record { variables = c.args.formula.now.variables; clauses = s })) cases.1.means,
       );
     }

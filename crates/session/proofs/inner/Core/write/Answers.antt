@@ -15,13 +15,13 @@ write-requires c =
       few = core.few c.in-Some.formula c.in-Some.is;
     }
 
-pub returns-in-err-len : goal.returns-in-err-len
-returns-in-err-len c =
+pub returns-in_err-len : goal.returns-in_err-len
+returns-in_err-len c =
     let core = c.args.self.now in
-    let p = err_from_is_err_and c.from-residual.result c.from-residual.ensures.1 in
-    rw (p.1, p.2) (bindings_of c.in-Some-prefix.prefix, _, ap prefix_in c.in-Some-prefix.is, ap (formula_in core.table) c.in-Some.is, c.in-err-len.ensures)
+    let p = err_from_is_err_and c.from_residual.result c.from_residual.ensures.1 in
+    rw (p.1, p.2) (bindings_of c.in-Some-prefix.prefix, _, ap prefix_in c.in-Some-prefix.is, ap (formula_in core.table) c.in-Some.is, c.in_err-len.ensures)
 
 pub returns : goal.returns
 returns c =
     let core = c.args.self.now in
-    (bindings_of c.in-Some-prefix.prefix, _, ap prefix_in c.in-Some-prefix.is, ap (formula_in core.table) c.in-Some.is, c.in-ok-len.ensures)
+    (bindings_of c.in-Some-prefix.prefix, _, ap prefix_in c.in-Some-prefix.is, ap (formula_in core.table) c.in-Some.is, c.in_ok-len.ensures)

@@ -9,13 +9,13 @@ use Rattle.session.proofs.session.Session.decide.Goals as goal
 too_large : {b : Bool} {n : ℕ} → Decides b (n ≤ most_allowed) → b ≡ false → most_allowed < n
 too_large d e = grind (arith, nat_tests)
 
-pub returns-then-not-is-allowed : goal.returns-then-not-is-allowed
-returns-then-not-is-allowed g c =
+pub returns-then-not-is_allowed : goal.returns-then-not-is_allowed
+returns-then-not-is_allowed g c =
     let session = c.args.self.now in
     record {
       answer = allowance_too_large;
       told = refl;
-      dealt = dealt g.M.Memo.held g.M.Memo.notes g.met.M.Memo.kept g.C.Chooser.picks g.met.C.Chooser.listed session (decide c.args.allowance allowance_too_large) session refl (deals_too_large (too_large c.is-allowed.ensures c.if-not-is-allowed.true));
+      dealt = dealt g.M.Memo.held g.M.Memo.notes g.met.M.Memo.kept g.C.Chooser.picks g.met.C.Chooser.listed session (decide c.args.allowance allowance_too_large) session refl (deals_too_large (too_large c.is_allowed.ensures c.if-not-is_allowed.true));
     }
 
 pub returns : goal.returns
