@@ -7,7 +7,6 @@ use Rattle.std.proofs.lemmas.List.{length_push, map_push}
 use Rattle.std.proofs.lemmas.Bool.{cond_both, and_cases, not-false, ltb-true, eqb-false}
 use Rattle.qbf.specs.declared.Quantifier.{Quantifier}
 use Rattle.qbf.specs.declared.Quantifier.TheVariants.{Existential, Universal}
-use Rattle.qbf.specs.Lists.{Distinct}
 use Rattle.words.specs.declared.literals.Literal.{Literal}
 use Rattle.words.specs.declared.numbers.NumberFault.{NumberFault}
 use Rattle.words.specs.Numbers.{read_number, read_literal}

@@ -1,7 +1,7 @@
 use Rattle.std.proofs.lemmas.Result.{err_from_is_err_and}
 use Rattle.reader.proofs.read.Goals as goal
 
-pub returns-in-err-read-into : goal.returns-in-err-read-into
-returns-in-err-read-into c =
-    let p = err_from_is_err_and c.from-residual.result c.from-residual.ensures.1 in
-    rw (p.1, p.2) c.in-err-read-into.ensures
+pub returns-in_err-read_into : goal.returns-in_err-read_into
+returns-in_err-read_into c =
+    let p = err_from_is_err_and c.from_residual.result c.from_residual.ensures.1 in
+    rw (p.1, p.2) c.in_err-read_into.ensures

@@ -25,7 +25,7 @@ pub loop-word-preserved : goal.loop-word-preserved
 loop-word-preserved c =
     let place = c.loop-word.place in
     let draft = draft_of c.loop-word.draft in
-    let next = draft_of c.on-word.new.draft in
+    let next = draft_of c.on_word.new.draft in
     let word = token c.in-Some.word in
     let text = c.args.text.now in
     let cut = c.in-Some.ensures.cases in

@@ -5,12 +5,12 @@ use Rattle.reader.proofs.Bound.{prefix_few}
 use Rattle.reader.proofs.Stored.{total_used}
 use Rattle.reader.proofs.clauses.on_literal.Goals as goal
 
-pub code-at-code-requires : goal.code-at-code-requires
-code-at-code-requires c =
+pub code_at-code-requires : goal.code_at-code-requires
+code_at-code-requires c =
     let bs = bindings_of c.args.draft.now.prefix in
     let w = found_within 0 c.args.literal.variable bs c.in-Some.place (sym c.in-Some.ensures) in
     let f = prefix_few bs c.requires.fine.once c.requires.fine.bound in
     omega arith
 
-pub push-literal-requires : goal.push-literal-requires
-push-literal-requires c = let used = total_used c.args.draft.now.clauses in omega (arith, c.requires.room)
+pub push_literal-requires : goal.push_literal-requires
+push_literal-requires c = let used = total_used c.args.draft.now.clauses in omega (arith, c.requires.room)
