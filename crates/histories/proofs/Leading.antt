@@ -1,12 +1,12 @@
 -- What a history leads to, one dealing after the other.
-use Rattle.std.proofs.Common.{◌≡◌, ℕ, ◌<◌, ◌≤◌, Bool, true, false, List, [], ◌∷◌, Some, None, Ok, Err, Option, Result, sym, refl, ap, ◌∙◌, subst, arith}
+use Rattle.std.proofs.Common.{◌≡◌, ℕ, Bool, List, [], ◌∷◌, Some, None, Ok, Err, Option, Result, sym, refl, ap, ◌∙◌, subst, arith}
 use Rattle.std.specs.List.{AllByRecursion}
 use Rattle.std.proofs.lemmas.Bool.Decides.{nat_tests}
 use Rattle.qbf.specs.declared.Candidate.{Candidate}
 use Rattle.qbf.specs.Lists.{Distinct}
 use Rattle.qbf.specs.Memo.{Pairs, Kept, Empty, Retains}
 use Rattle.qbf.specs.Chooser.{Picks}
-use Rattle.qbf.specs.Numbering.{Numbering, Among, Gains}
+use Rattle.qbf.specs.Numbering.{Numbering, Among}
 use Rattle.qbf.specs.Decision.{Ending, verdict, refused, Decides, Right}
 use Rattle.formula.specs.declared.prefix.Binding.{Binding}
 use Rattle.formula.specs.Views.{Reading}
@@ -17,9 +17,8 @@ use Rattle.theory.proofs.Deciding.{right_later}
 use Rattle.theory.proofs.Tables.{stops_gains}
 use Rattle.theory.proofs.Repeating.{decides_grows, decision_settles, decision_repeats}
 use Rattle.ledger.specs.Answers.{LoadAnswer, loaded, unread, load_full, DecideAnswer, found, nothing_to_decide, allowance_too_large, answer, WriteAnswer}
-use Rattle.ledger.specs.Ledger.{Dealing, load, decide, write, forget, LoadedFormula, Ledger, quantifiers, most_allowed, under, loads, decides, ledger}
+use Rattle.ledger.specs.Ledger.{Dealing, load, decide, write, LoadedFormula, Ledger, quantifiers, under, loads, ledger}
 use Rattle.ledger.specs.Promises.{CarriedOut, promised_unread, promised_nothing, promised_too_large, promised_written, promised_short, promised_unwritten}
-use Rattle.ledger.specs.Keeping.{LoadKept, DecisionKept}
 use Rattle.ledger.proofs.Keeping.{load_keeps, decision_keeps}
 use Rattle.histories.specs.Standing.{Standing, Fresh, Begins, same_prefix, other_prefix}
 use Rattle.histories.specs.Dealings.{Deals, deals_unread, deals_loaded, deals_load_full, deals_decided, deals_undecided, deals_too_large, deals_written, deals_short, deals_unwritten, deals_forgot}

@@ -1,7 +1,7 @@
 -- The ledger after one dealing more.
-use Rattle.std.proofs.Common.{◌≡◌, ℕ, ◌<◌, ◌≤◌, Bool, true, false, cond, leb, List, [], Some, None, Option, sym, refl, ap, ◌∙◌, subst, arith}
+use Rattle.std.proofs.Common.{◌≡◌, ℕ, ◌<◌, Bool, true, false, leb, List, [], Some, None, Option, refl, ap, ◌∙◌, arith}
 use Rattle.std.proofs.lemmas.Bool.Decides.{nat_tests}
-use Rattle.std.proofs.lemmas.Bool.{cases_Bool, cond_both}
+use Rattle.std.proofs.lemmas.Bool.{cond_both}
 use Rattle.qbf.specs.declared.Candidate.{Candidate}
 use Rattle.formula.specs.declared.prefix.Binding.{Binding}
 use Rattle.ledger.specs.Ledger.{LoadedFormula, Ledger, has_prefix, most_allowed, under, decides}

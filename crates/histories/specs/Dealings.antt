@@ -11,7 +11,7 @@ use Rattle.grammar.specs.Steps.{read_all}
 use Rattle.sets.specs.Formed.{forming}
 use Rattle.ledger.specs.Answers.{loaded, unread, load_full, nothing_to_decide, allowance_too_large, answer, written, nothing_to_write, too_short}
 use Rattle.ledger.specs.Ledger.{Dealing, load, decide, write, forget, LoadedFormula, quantifiers, most_allowed, formula_of}
-use Rattle.ledger.specs.Promises.{CarriedOut, text_of}
+use Rattle.ledger.specs.Promises.{text_of}
 use Rattle.histories.specs.Standing.{Standing, Fresh, Begins}
 
 -- A session stood at the first place, was dealt with so, and stands at the second: one case for each way in which a call ends.

@@ -36,7 +36,7 @@ pub fn load_keeps_stands() -> u8
 
 // A decision with any memo keeps what is promised of its answer.
 pub fn decision_keeps_stands<M: Memo>() -> u8
-    ensures { DecisionKeeps held notes }
+    ensures { DecisionKeeps M.held M.notes }
 {
     0
 }
