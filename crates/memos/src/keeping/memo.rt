@@ -2,7 +2,7 @@
 ghost use Rattle.std.specs.Prelude.{◌≡◌, take};
 ghost use Rattle.qbf.specs.Memo.{Empty};
 ghost use Rattle.memos.specs.Keeps.{keeping_held, keeping_notes};
-ghost use Rattle.std.proofs.Common.{rules, arith};
+ghost use Rattle.std.proofs.Common.{rules};
 
 use crate::Memo;
 use crate::keeping::{Keeping, ROOM};
@@ -36,7 +36,7 @@ impl Memo for Keeping {
 
     ghost notes = { keeping_notes };
 
-    ghost kept = { first_of (Prim.search rules, Prim.grind (arith, Self.row.coded.inj)) };
+    ghost kept = { Prim.search rules };
 
     fn recall(&self, number: u16) -> Option<bool> {
         verdict_among(self.kept(), number)
