@@ -6,7 +6,7 @@ use Rattle.qbf.specs.declared.Quantifier.TheVariants.{Existential}
 use Rattle.qbf.specs.declared.Candidate.{Candidate}
 use Rattle.qbf.specs.Literals.{positive, negative}
 use Rattle.qbf.specs.Clauses.{holding}
-use Rattle.qbf.specs.Reduce.{same, occurs, lowest}
+use Rattle.qbf.specs.Reduce.{same, lowest}
 use Rattle.qbf.specs.Walk.{present, outermost, candidate, candidates}
 use Rattle.formula.specs.declared.prefix.Binding.{Binding}
 use Rattle.survey.specs.Surveyed.{Counted}

@@ -1,6 +1,8 @@
 -- A look for the lowest number that passes a test, from 0 upward.
 use Rattle.std.proofs.Common.{◌≡◌, ℕ, zero, suc, ◌+◌, ◌-◌, ◌*◌, ◌/◌, ◌<◌, ◌≤◌, Bool, true, false, cond, not, ◌&&◌, List, [], ◌∷◌, length, get_or, Some, None, sym, refl, ap, ◌∙◌, subst, arith}
 use Rattle.std.proofs.lemmas.Bool.Decides.{nat_tests}
+use denote.Enum.Bare.{sameb}
+use Rattle.qbf.specs.contracts.Quantifier.{the_type}
 use Rattle.qbf.specs.declared.Quantifier.{Quantifier}
 use Rattle.qbf.specs.declared.Quantifier.TheVariants.{Existential, Universal}
 use Rattle.qbf.specs.Literals.{complement}
@@ -79,12 +81,30 @@ module _ (counts : List ℕ) (l : ℕ) where
   pub lone_here : (m : ℕ) → m ≡ complement l → 0 < get_or counts l 0 → get_or counts m 0 ≡ 0 → lone_by counts l ≡ true
   lone_here m e h z = let k : get_or counts (complement l) 0 ≡ 0 = subst (λ j. get_or counts j 0 ≡ 0) e z in grind (arith, nat_tests)
 
--- what `!=` told
+-- what `==` and `!=` of quantifiers told
 
-pub told_apart : (P : Type 0) (same_one r : Bool) → cond same_one P (P → ⊥) → r ≡ not same_one → r ≡ true → P → ⊥
-told_apart P true r h e f = absurd (let no : ⊥ = grind (arith, nat_tests) in no)
-told_apart P false r h e f = h
+pub equal_told : (q r : Quantifier) → sameb the_type q r ≡ true → q ≡ r
+equal_told Existential Existential e = refl
+equal_told Existential Universal e = cc
+equal_told Universal Existential e = cc
+equal_told Universal Universal e = refl
 
-pub told_same : (P : Type 0) (same_one r : Bool) → cond same_one P (P → ⊥) → r ≡ not same_one → r ≡ false → P
-told_same P true r h e f = h
-told_same P false r h e f = absurd (let no : ⊥ = grind (arith, nat_tests) in no)
+pub unequal_told : (q r : Quantifier) → sameb the_type q r ≡ false → q ≡ r → ⊥
+unequal_told Existential Existential e p = cc
+unequal_told Existential Universal e p = cc
+unequal_told Universal Existential e p = cc
+unequal_told Universal Universal e p = cc
+
+not_true : (b r : Bool) → r ≡ not b → r ≡ true → b ≡ false
+not_true true r h e = cc
+not_true false r h e = refl
+
+not_false : (b r : Bool) → r ≡ not b → r ≡ false → b ≡ true
+not_false true r h e = refl
+not_false false r h e = cc
+
+pub told_apart : (q r : Quantifier) (differ : Bool) → differ ≡ not (sameb the_type q r) → differ ≡ true → q ≡ r → ⊥
+told_apart q r differ h e = unequal_told q r (not_true _ _ h e)
+
+pub told_same : (q r : Quantifier) (differ : Bool) → differ ≡ not (sameb the_type q r) → differ ≡ false → q ≡ r
+told_same q r differ h e = equal_told q r (not_false _ _ h e)

@@ -7,14 +7,12 @@ use Rattle.reduction.proofs.block.block_from.Goals.{then-occurs, else-occurs}
 
 pub returns-then-ne : goal.returns-then-ne
 returns-then-ne c =
-    let told = c.ne.ensures in
-    gathered_other _ _ _ _ _ c.loop-place.invariant c.loop-place-test.true (told_apart _ told.0 _ told.1 told.2 c.if-ne.true)
+    gathered_other _ _ _ _ _ c.loop-place.invariant c.loop-place-test.true (told_apart _ _ _ c.ne.ensures c.if-ne.true)
 
 pub loop-place-preserved : goal.loop-place-preserved
 loop-place-preserved c =
-    let told = c.ne.ensures in
     let bs = c.args.bindings.now in
-    let same_block : bound_at bs c.loop-place.place ≡ bound_at bs c.args.first = told_same _ told.0 _ told.1 told.2 c.if-ne.false in
+    let same_block : bound_at bs c.loop-place.place ≡ bound_at bs c.args.first = told_same _ _ _ c.ne.ensures c.if-ne.false in
     let candidate = c.candidate_at-candidate.result in
     let is = c.candidate_at-candidate.ensures in
     elim c.if-occurs.branch [

@@ -8,11 +8,11 @@ returns-in-Settled c =
     let so_far = c.loop-verdict.invariant in
     record { reduces = leads_settled _ _ _ _ _ so_far _ c.in-Settled.ensures; ready = tt; keeps = so_far.keeps }
 
-pub returns-in_err-rest : goal.returns-in_err-rest
-returns-in_err-rest c =
+pub returns-in_err-rest-in-Forced : goal.returns-in_err-rest-in-Forced
+returns-in_err-rest-in-Forced c =
     let so_far = c.loop-verdict.invariant in
     let p = err_from_is_err_and c.from_residual.result c.from_residual.ensures.1 in
-    let set = c.in_err-rest.ensures in
+    let set = c.in_err-rest-in-Forced.ensures in
     rw p.1 (record {
       reduces = leads_full _ _ _ _ _ so_far _ c.in-Forced.ensures _ set.keeps set.set;
       ready = tt;
@@ -21,13 +21,13 @@ returns-in_err-rest c =
 
 pub loop-verdict-smaller : goal.loop-verdict-smaller
 loop-verdict-smaller c =
-    let set = c.in_ok-rest.ensures in
+    let set = c.in_ok-rest-in-Forced.ensures in
     forced_falls _ _ _ _ _ c.loop-verdict.invariant _ c.in-Forced.ensures _ set.keeps _ set.set
 
 pub loop-verdict-preserved : goal.loop-verdict-preserved
 loop-verdict-preserved c =
     let so_far = c.loop-verdict.invariant in
-    let set = c.in_ok-rest.ensures in
+    let set = c.in_ok-rest-in-Forced.ensures in
     leads_forced _ _ _ _ _ so_far _ c.in-Forced.ensures _ set.keeps _ set.set (set.ready (quantifiers_of c.args.prefix.now) so_far.ready)
 
 pub returns-in-Stuck : goal.returns-in-Stuck
