@@ -1,5 +1,5 @@
 -- What holds of a formula that was read, so that it can be stored and written.
-use Rattle.std.proofs.Common.{◌≡◌, ℕ, ◌*◌, ◌<◌, ◌≤◌, Bool, true, false, List, [], length, sym, ap, subst, arith}
+use Rattle.std.proofs.Common.{ℕ, ◌*◌, ◌<◌, ◌≤◌, Bool, true, false, List, [], length, sym, ap, subst, arith}
 use Rattle.std.specs.List.{AllByRecursion}
 use Rattle.std.proofs.ByRecursion.{All-weaker}
 use Rattle.formula.specs.declared.prefix.Binding.{Binding}
@@ -7,7 +7,6 @@ use Rattle.formula.specs.declared.Formula.{Formula}
 use Rattle.formula.specs.Views.{Reading, reading, bindings_of, clauses_of}
 use Rattle.formula.proofs.Positions.{found_within}
 use Rattle.grammar.specs.Grammar.{Format, code_at}
-use Rattle.grammar.specs.Stored.{store_all}
 use Rattle.sets.specs.Formed.{formed}
 use Rattle.rendering.specs.Render.{literal_of}
 use Rattle.rendering.proofs.Codes.{Known}

@@ -12,7 +12,7 @@ use Rattle.words.specs.Numbers.{written}
 use Rattle.formula.specs.declared.prefix.Binding.{Binding}
 use Rattle.formula.specs.declared.prefix.Prefix.{Prefix}
 use Rattle.formula.specs.Views.{bindings_of}
-use Rattle.rendering.specs.Render.{render, prefix_lines, problem_line, clause_lines, literal_of}
+use Rattle.rendering.specs.Render.{render, prefix_lines, literal_of}
 use Rattle.rendering.proofs.Sums.{total}
 use Rattle.rendering.proofs.Lengths.{length_render, length_problem, length_clauses, literal_cost, clause_cost}
 use Rattle.table.specs.declared.table.Table.{Table}

@@ -1,4 +1,4 @@
 use Rattle.writer.proofs.clauses.+count_clauses.Given as goal
 
-abbrev pub decreases-count-clauses : goal.decreases-count-clauses
-decreases-count-clauses l = l.number
+abbrev pub decreases-count_clauses : goal.decreases-count_clauses
+decreases-count_clauses l = l.number

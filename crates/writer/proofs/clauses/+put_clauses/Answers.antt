@@ -1,4 +1,4 @@
-use Rattle.std.proofs.Common.{◌≡◌, ℕ, ◌*◌, ◌<◌, List, ◌++◌, length, sym, refl, ap, ◌∙◌, subst, arith}
+use Rattle.std.proofs.Common.{◌≡◌, ℕ, ◌*◌, ◌<◌, ◌++◌, length, sym, refl, ap, ◌∙◌, subst, arith}
 use Rattle.std.specs.List.{AllByRecursion}
 use Rattle.std.proofs.lemmas.List.{length_push}
 use Rattle.table.specs.Tables.{clauses}
@@ -12,15 +12,15 @@ use Rattle.writer.proofs.clauses.+put_clauses.Goals.{After-push, After-pop}
 pub returns-then-number-eq0 : goal.returns-then-number-eq0
 returns-then-number-eq0 t c = record { text = put_as (no_lines c.args.table.now c.args.number c.args.prefix.now (codes_of c.args.path.now) c.if-number-eq0.true) put_none; path = refl }
 
-pub put-clause-requires : goal.put-clause-requires
-put-clause-requires t c = record {
+pub put_clause-requires : goal.put_clause-requires
+put_clause-requires t c = record {
   bound = subst (AllByRecursion (λ (k : ℕ). k < 2 * length c.args.prefix.now)) (sym c.codes.ensures) c.requires.below.path_bound;
   room = subst (Room c.args.at) (sym (one_line c.args.table.now c.args.number c.args.prefix.now (codes_of c.args.path.now) _ c.if-number-eq1.true c.codes.ensures)) c.requires.room;
 }
 
 pub returns-then-number-eq1 : goal.returns-then-number-eq1
 returns-then-number-eq1 t c = record {
-  text = put_as (one_line c.args.table.now c.args.number c.args.prefix.now (codes_of c.args.path.now) _ c.if-number-eq1.true c.codes.ensures) c.put-clause.ensures;
+  text = put_as (one_line c.args.table.now c.args.number c.args.prefix.now (codes_of c.args.path.now) _ c.if-number-eq1.true c.codes.ensures) c.put_clause.ensures;
   path = refl;
 }
 
@@ -36,38 +36,38 @@ with-next : (t : ℕ) (c : goal.After-push t) →
     Writing c.args.buffer.now c.args.at (lines_below prefix path (clauses x c.args.number)) (lines_below prefix longer (clauses x c.node-node.result.with) ++ lines_below prefix path (clauses x c.node-node.result.without)) c.args.buffer.now c.args.at
 with-next t c = rest_as (lines_split c.args.table.now c.args.number c.node-node.result c.requires.held c.node-node.ensures _ _ _ _ c.push.ensures refl) begun
 
-pub put-clauses-end-requires : goal.put-clauses-end-requires
-put-clauses-end-requires t c =
+pub put_clauses-end-requires : goal.put_clauses-end-requires
+put_clauses-end-requires t c =
     let o = c.node-node.ensures in (
       omega (arith, o.with_less),
       (
         omega (arith, o.with_less, c.requires.held),
         (
           below_high c.args.table.now c.args.number c.node-node.result c.requires.held o _ _ c.requires.below _ c.push.ensures,
-          next_room_lem _ _ (with-next t (goal.at.put-clauses-end-requires t c).After-push) c.requires.room,
+          next_room_lem _ _ (with-next t (goal.at.put_clauses-end-requires t c).After-push) c.requires.room,
         ),
       ),
     )
 
 pub pop-requires : goal.pop-requires
-pop-requires t c = let l = ap length (c.put-clauses-end.ensures.path ∙ c.push.ensures) ∙ length_push (codes_of c.args.path.now) c.node-node.result.code in omega arith
+pop-requires t c = let l = ap length (c.put_clauses-end.ensures.path ∙ c.push.ensures) ∙ length_push (codes_of c.args.path.now) c.node-node.result.code in omega arith
 
 -- the path is again what it was
 again : (t : ℕ) (c : goal.After-pop t) → codes_of c.pop.new.self ≡ codes_of c.args.path.now
-again t c = popped (codes_of c.args.path.now) (codes_of c.put-clauses-end.new.path) (codes_of c.pop.new.self) c.node-node.result.code (c.put-clauses-end.ensures.path ∙ c.push.ensures) c.pop.ensures
+again t c = popped (codes_of c.args.path.now) (codes_of c.put_clauses-end.new.path) (codes_of c.pop.new.self) c.node-node.result.code (c.put_clauses-end.ensures.path ∙ c.push.ensures) c.pop.ensures
 
 -- and then the lines of the without_side
 without-next : (t : ℕ) (c : goal.After-pop t) →
     let x = c.args.table.now in
     let prefix = c.args.prefix.now in
-    Writing c.args.buffer.now c.args.at (lines_below prefix (codes_of c.args.path.now) (clauses x c.args.number)) (lines_below prefix (codes_of c.pop.new.self) (clauses x c.node-node.result.without)) c.put-clauses-end.new.buffer c.put-clauses-end.result
+    Writing c.args.buffer.now c.args.at (lines_below prefix (codes_of c.args.path.now) (clauses x c.args.number)) (lines_below prefix (codes_of c.pop.new.self) (clauses x c.node-node.result.without)) c.put_clauses-end.new.buffer c.put_clauses-end.result
 without-next t c =
-    next _ _ (rest_as (lines_split c.args.table.now c.args.number c.node-node.result c.requires.held c.node-node.ensures _ _ _ _ c.push.ensures (again t c)) begun) c.put-clauses-end.ensures.text
+    next _ _ (rest_as (lines_split c.args.table.now c.args.number c.node-node.result c.requires.held c.node-node.ensures _ _ _ _ c.push.ensures (again t c)) begun) c.put_clauses-end.ensures.text
 
-pub put-clauses-requires : goal.put-clauses-requires
-put-clauses-requires t c =
+pub put_clauses-requires : goal.put_clauses-requires
+put_clauses-requires t c =
     let o = c.node-node.ensures in
-    let d = (goal.at.put-clauses-requires t c).After-pop in (
+    let d = (goal.at.put_clauses-requires t c).After-pop in (
       omega (arith, o.without_less),
       (
         omega (arith, o.without_less, c.requires.held),
@@ -81,4 +81,4 @@ put-clauses-requires t c =
 pub returns : goal.returns
 returns t c =
     let d = (goal.at.returns t c).After-pop in
-    record { text = last (without-next t d) c.put-clauses.ensures.text; path = c.put-clauses.ensures.path ∙ again t d }
+    record { text = last (without-next t d) c.put_clauses.ensures.text; path = c.put_clauses.ensures.path ∙ again t d }

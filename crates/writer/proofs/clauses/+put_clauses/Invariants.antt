@@ -1,4 +1,4 @@
 use Rattle.writer.proofs.clauses.+put_clauses.Given as goal
 
-abbrev pub decreases-put-clauses : goal.decreases-put-clauses
-decreases-put-clauses l = l.number
+abbrev pub decreases-put_clauses : goal.decreases-put_clauses
+decreases-put_clauses l = l.number

@@ -7,22 +7,22 @@ use Rattle.writer.proofs.lines.put_clause.Goals as goal
 pub loop-code-init : goal.loop-code-init
 loop-code-init c = begun
 
-pub put-literal-end-requires : goal.put-literal-end-requires
-put-literal-end-requires c = record {
+pub put_literal-end-requires : goal.put_literal-end-requires
+put_literal-end-requires c = record {
   bound = All-get_or (λ (k : ℕ). k < 2 * length c.args.prefix.now) c.args.codes.now c.loop-code.code-index 0 c.loop-code-test.true c.requires.bound;
   room = next_room_lem _ _ (literal_next c.args.prefix.now c.args.codes.now c.loop-code.code-index c.loop-code.invariant c.loop-code-test.true) c.requires.room;
 }
 
 pub put-end-requires : goal.put-end-requires
 put-end-requires c =
-    next_room_lem (32 ∷ []) _ (next _ _ (literal_next c.args.prefix.now c.args.codes.now c.loop-code.code-index c.loop-code.invariant c.loop-code-test.true) c.put-literal-end.ensures) c.requires.room
+    next_room_lem (32 ∷ []) _ (next _ _ (literal_next c.args.prefix.now c.args.codes.now c.loop-code.code-index c.loop-code.invariant c.loop-code-test.true) c.put_literal-end.ensures) c.requires.room
 
 pub loop-code-preserved : goal.loop-code-preserved
 loop-code-preserved c =
-    next (32 ∷ []) _ (next _ _ (literal_next c.args.prefix.now c.args.codes.now c.loop-code.code-index c.loop-code.invariant c.loop-code-test.true) c.put-literal-end.ensures) c.put-end.ensures
+    next (32 ∷ []) _ (next _ _ (literal_next c.args.prefix.now c.args.codes.now c.loop-code.code-index c.loop-code.invariant c.loop-code-test.true) c.put_literal-end.ensures) c.put-end.ensures
 
-pub put-bytes-requires : goal.put-bytes-requires
-put-bytes-requires c = last_room _ (literals_put c.args.prefix.now c.args.codes.now c.loop-code.code-index c.loop-code.invariant c.loop-code-test.false) c.requires.room
+pub put_bytes-requires : goal.put_bytes-requires
+put_bytes-requires c = last_room _ (literals_put c.args.prefix.now c.args.codes.now c.loop-code.code-index c.loop-code.invariant c.loop-code-test.false) c.requires.room
 
 pub returns : goal.returns
-returns c = last (literals_put c.args.prefix.now c.args.codes.now c.loop-code.code-index c.loop-code.invariant c.loop-code-test.false) c.put-bytes.ensures
+returns c = last (literals_put c.args.prefix.now c.args.codes.now c.loop-code.code-index c.loop-code.invariant c.loop-code-test.false) c.put_bytes.ensures

@@ -6,18 +6,18 @@ use Rattle.writer.proofs.lines.put_prefix.Goals as goal
 pub loop-binding-init : goal.loop-binding-init
 loop-binding-init c = rest_as (sym (prefix_as c.args.prefix.now)) begun
 
-pub put-binding-end-requires : goal.put-binding-end-requires
-put-binding-end-requires c =
+pub put_binding-end-requires : goal.put_binding-end-requires
+put_binding-end-requires c =
     next_room_lem _ _ (binding_next c.loop-binding.line c.args.prefix.now c.loop-binding.binding-index _ c.loop-binding-test.true c.loop-binding.invariant) c.requires
 
 pub loop-binding-preserved : goal.loop-binding-preserved
 loop-binding-preserved c =
-    next _ _ (binding_next c.loop-binding.line c.args.prefix.now c.loop-binding.binding-index _ c.loop-binding-test.true c.loop-binding.invariant) c.put-binding-end.ensures
+    next _ _ (binding_next c.loop-binding.line c.args.prefix.now c.loop-binding.binding-index _ c.loop-binding-test.true c.loop-binding.invariant) c.put_binding-end.ensures
 
-pub put-ending-requires : goal.put-ending-requires
-put-ending-requires c =
+pub put_ending-requires : goal.put_ending-requires
+put_ending-requires c =
     last_room _ (bindings_put c.loop-binding.line c.args.prefix.now c.loop-binding.binding-index c.loop-binding-test.false c.loop-binding.invariant) c.requires
 
 pub returns : goal.returns
 returns c =
-    last (bindings_put c.loop-binding.line c.args.prefix.now c.loop-binding.binding-index c.loop-binding-test.false c.loop-binding.invariant) c.put-ending.ensures
+    last (bindings_put c.loop-binding.line c.args.prefix.now c.loop-binding.binding-index c.loop-binding-test.false c.loop-binding.invariant) c.put_ending.ensures

@@ -1,4 +1,4 @@
-use Rattle.std.proofs.Common.{◌≡◌, ℕ, ◌+◌, ◌/◌, ◌%◌, ◌≤◌, List, [], ◌∷◌, ◌++◌, length, decimal, sym, ap, arith, length-append}
+use Rattle.std.proofs.Common.{◌≡◌, ℕ, ◌+◌, ◌/◌, ◌%◌, ◌≤◌, [], ◌∷◌, length, decimal, sym, ap, arith, length-append}
 use Rattle.std.proofs.lemmas.Fmt.{decimal_digit, decimal_step}
 use Rattle.writer.proofs.Puts.{put_as, put_then}
 use Rattle.writer.proofs.pen.+put_number.Goals as goal
@@ -16,11 +16,11 @@ step n h k =
     let f = length-append (decimal (n / 10)) ((48 + n % 10) ∷ []) in
     omega arith
 
-pub put-number-end-requires : goal.put-number-end-requires
-put-number-end-requires t c = (omega arith, omega (arith, step c.args.number c.if-number-lt10.false (omega arith), c.requires))
+pub put_number-end-requires : goal.put_number-end-requires
+put_number-end-requires t c = (omega arith, omega (arith, step c.args.number c.if-number-lt10.false (omega arith), c.requires))
 
 pub put-requires-2 : goal.put-requires-2
-put-requires-2 t c = omega (arith, step c.args.number c.if-number-lt10.false (omega arith), c.requires, c.put-number-end.ensures.behind)
+put-requires-2 t c = omega (arith, step c.args.number c.if-number-lt10.false (omega arith), c.requires, c.put_number-end.ensures.behind)
 
 pub returns : goal.returns
-returns t c = put_as (sym (decimal_step c.args.number c.if-number-lt10.false (omega arith))) (put_then c.put-number-end.ensures c.put-2.ensures)
+returns t c = put_as (sym (decimal_step c.args.number c.if-number-lt10.false (omega arith))) (put_then c.put_number-end.ensures c.put-2.ensures)

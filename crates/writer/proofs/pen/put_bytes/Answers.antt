@@ -1,4 +1,4 @@
-use Rattle.std.proofs.Common.{◌+◌, [], ◌∷◌, get_or, drop, arith}
+use Rattle.std.proofs.Common.{◌+◌, [], ◌∷◌, get_or, drop}
 use Rattle.std.proofs.lemmas.List.{drop_more, drop_all}
 use Rattle.writer.proofs.Puts.{begun, rest_as, next, next_room_lem, finished}
 use Rattle.writer.proofs.pen.put_bytes.Goals as goal

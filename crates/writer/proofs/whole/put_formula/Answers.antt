@@ -7,22 +7,22 @@ use Rattle.writer.proofs.Puts.{begun, next_room_lem, last_room, last}
 use Rattle.writer.proofs.Parts.{headed, prefixed}
 use Rattle.writer.proofs.whole.put_formula.Goals as goal
 
-pub put-problem-end-requires : goal.put-problem-end-requires
-put-problem-end-requires c =
-    subst (λ (n : ℕ). Room 0 (problem_line c.args.variables n)) (sym c.count-clauses-count.ensures)
+pub put_problem-end-requires : goal.put_problem-end-requires
+put_problem-end-requires c =
+    subst (λ (n : ℕ). Room 0 (problem_line c.args.variables n)) (sym c.count_clauses-count.ensures)
     (next_room_lem {xs = []} (problem_line c.args.variables (length (clauses c.args.table.now c.args.number))) _ begun c.requires.room)
 
-pub put-prefix-end-requires : goal.put-prefix-end-requires
-put-prefix-end-requires c =
-    next_room_lem (prefix_lines c.args.prefix.now) _ (headed c.args.variables c.args.prefix.now (clauses c.args.table.now c.args.number) c.count-clauses-count.ensures c.put-problem-end.ensures) c.requires.room
+pub put_prefix-end-requires : goal.put_prefix-end-requires
+put_prefix-end-requires c =
+    next_room_lem (prefix_lines c.args.prefix.now) _ (headed c.args.variables c.args.prefix.now (clauses c.args.table.now c.args.number) c.count_clauses-count.ensures c.put_problem-end.ensures) c.requires.room
 
-pub put-clauses-requires : goal.put-clauses-requires
-put-clauses-requires c = record {
+pub put_clauses-requires : goal.put_clauses-requires
+put_clauses-requires c = record {
   held = c.requires.held;
   below = below_none _ _ _ c.new-path.ensures c.requires.bound;
-  room = last_room _ (prefixed c.args.variables c.args.prefix.now (clauses c.args.table.now c.args.number) c.count-clauses-count.ensures c.put-problem-end.ensures c.put-prefix-end.ensures _ c.new-path.ensures) c.requires.room;
+  room = last_room _ (prefixed c.args.variables c.args.prefix.now (clauses c.args.table.now c.args.number) c.count_clauses-count.ensures c.put_problem-end.ensures c.put_prefix-end.ensures _ c.new-path.ensures) c.requires.room;
 }
 
 pub returns : goal.returns
 returns c =
-    last (prefixed c.args.variables c.args.prefix.now (clauses c.args.table.now c.args.number) c.count-clauses-count.ensures c.put-problem-end.ensures c.put-prefix-end.ensures _ c.new-path.ensures) c.put-clauses.ensures.text
+    last (prefixed c.args.variables c.args.prefix.now (clauses c.args.table.now c.args.number) c.count_clauses-count.ensures c.put_problem-end.ensures c.put_prefix-end.ensures _ c.new-path.ensures) c.put_clauses.ensures.text
