@@ -45,8 +45,8 @@ Noted notes before n (verdict b) after = notes before n b after
 Noted notes before n (refused f) after = after ≡ before
 
 -- What follows once a set is reduced to r, of number n, which the memo does not know: every set that reduces to it is decided so.
-abbrev pub Goes_on : {M : Type 0} → (M → Pairs) → (M → ℕ → Bool → M → Type 0) → List Quantifier → (List Candidate → ℕ) → ℕ → ℕ → ℕ →
+abbrev pub GoesOn : {M : Type 0} → (M → Pairs) → (M → ℕ → Bool → M → Type 0) → List Quantifier → (List Candidate → ℕ) → ℕ → ℕ → ℕ →
     Numbering → M → List (List ℕ) → ℕ → Ending → ℕ → Numbering → M → Type 0
-Goes_on held notes prefix pick allowance depth splits before memo r n e done after kept =
+GoesOn held notes prefix pick allowance depth splits before memo r n e done after kept =
     (t : Numbering) (s : List (List ℕ)) → Unknown held prefix t memo s r n before →
     Decides held notes prefix pick allowance depth splits t memo s e done after kept

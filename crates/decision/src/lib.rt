@@ -36,10 +36,10 @@ pub fn decide<M: Memo, C: Chooser>(
 ) -> Result<(bool, u32), Unfinished>
     requires ready { Ready (quantifiers_of prefix.now) table.old number }
     requires allowed { allowance ≤ 1000000 }
-    ensures decides { Decides held notes (quantifiers_of prefix.now) (picks chooser.now) allowance 0 0 (sets_of table.old) memo.old (clauses table.old number) (ending_of result) (splits_of result) (sets_of table.new) memo.new }
+    ensures decides { Decides M.held M.notes (quantifiers_of prefix.now) (C.picks chooser.now) allowance 0 0 (sets_of table.old) memo.old (clauses table.old number) (ending_of result) (splits_of result) (sets_of table.new) memo.new }
     ensures keeps { Kept table.old table.new }
-    ensures right { StaysRight held (quantifiers_of prefix.now) (picks chooser.now) allowance (sets_of table.old) memo.old (clauses table.old number) (ending_of result) (splits_of result) (sets_of table.new) memo.new }
-    ensures unaided { Unaided held (quantifiers_of prefix.now) (picks chooser.now) (clauses table.old number) (ending_of result) (splits_of result) }
+    ensures right { StaysRight M.held (quantifiers_of prefix.now) (C.picks chooser.now) allowance (sets_of table.old) memo.old (clauses table.old number) (ending_of result) (splits_of result) (sets_of table.new) memo.new }
+    ensures unaided { Unaided M.held (quantifiers_of prefix.now) (C.picks chooser.now) (clauses table.old number) (ending_of result) (splits_of result) }
 {
     let progress = Progress {
         allowance,

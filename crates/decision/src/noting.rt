@@ -7,7 +7,7 @@ use memos::Memo;
 
 // Notes the verdict for the reduced set. Without a verdict there is nothing to note.
 pub fn note_verdict<M: Memo>(memo: &mut M, number: u16, answer: Result<(bool, u32), Unfinished>)
-    ensures { Noted notes memo.old number (ending_of answer) memo.new }
+    ensures { Noted M.notes memo.old number (ending_of answer) memo.new }
 {
     match answer {
         Ok((verdict, _)) => memo.note(number, verdict),

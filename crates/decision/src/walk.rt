@@ -4,7 +4,7 @@ ghost use Rattle.qbf.specs.Walk.{candidates};
 ghost use Rattle.qbf.specs.Decision.{Decides};
 ghost use Rattle.table.specs.Tables.{clauses};
 ghost use Rattle.decision.specs.Endings.{ending_of, splits_of};
-ghost use Rattle.decision.specs.Steps.{Side, Sides, Goes_on};
+ghost use Rattle.decision.specs.Steps.{Side, Sides, GoesOn};
 ghost use Rattle.reduction.specs.Numbered.{quantifiers_of, sets_of, Ready};
 
 use crate::choice::Choice;
@@ -29,7 +29,7 @@ pub fn walk<M: Memo, C: Chooser>(
     progress: Progress,
 ) -> Result<(bool, u32), Unfinished>
     requires { Ready (quantifiers_of prefix.now) table.old number }
-    ensures { Decides held notes (quantifiers_of prefix.now) (picks chooser.now) progress.allowance progress.depth progress.splits (sets_of table.old) memo.old (clauses table.old number) (ending_of result) (splits_of result) (sets_of table.new) memo.new }
+    ensures { Decides M.held M.notes (quantifiers_of prefix.now) (C.picks chooser.now) progress.allowance progress.depth progress.splits (sets_of table.old) memo.old (clauses table.old number) (ending_of result) (splits_of result) (sets_of table.new) memo.new }
 {
     let Ok(reduced) = reduce(table, prefix, number) else {
         return Err(progress.end(Halt::Full));
@@ -57,7 +57,7 @@ fn split<M: Memo, C: Chooser>(
 ) -> Result<(bool, u32), Unfinished>
     requires ready { Ready (quantifiers_of prefix.now) table.old number }
     requires shown { 0 < length (candidates (quantifiers_of prefix.now) (clauses table.old number)) }
-    ensures { Goes_on held notes (quantifiers_of prefix.now) (picks chooser.now) progress.allowance progress.depth progress.splits (sets_of table.old) memo.old (clauses table.old number) number (ending_of result) (splits_of result) (sets_of table.new) memo.new }
+    ensures { GoesOn M.held M.notes (quantifiers_of prefix.now) (C.picks chooser.now) progress.allowance progress.depth progress.splits (sets_of table.old) memo.old (clauses table.old number) number (ending_of result) (splits_of result) (sets_of table.new) memo.new }
 {
     if progress.splits == progress.allowance {
         return Err(progress.end(Halt::Spent));
@@ -84,7 +84,7 @@ fn sides<M: Memo, C: Chooser>(
     progress: Progress,
 ) -> Result<(bool, u32), Unfinished>
     requires { Ready (quantifiers_of prefix.now) table.old number }
-    ensures { Sides held notes (quantifiers_of prefix.now) (picks chooser.now) progress.allowance progress.depth progress.splits (sets_of table.old) memo.old (clauses table.old number) choice (ending_of result) (splits_of result) (sets_of table.new) memo.new }
+    ensures { Sides M.held M.notes (quantifiers_of prefix.now) (C.picks chooser.now) progress.allowance progress.depth progress.splits (sets_of table.old) memo.old (clauses table.old number) choice (ending_of result) (splits_of result) (sets_of table.new) memo.new }
 {
     let negative = choice.literal(false);
     let (first, splits) = side(table, memo, chooser, prefix, number, negative, progress)?;
@@ -108,7 +108,7 @@ fn side<M: Memo, C: Chooser>(
     progress: Progress,
 ) -> Result<(bool, u32), Unfinished>
     requires { Ready (quantifiers_of prefix.now) table.old number }
-    ensures { Side held notes (quantifiers_of prefix.now) (picks chooser.now) progress.allowance progress.depth progress.splits (sets_of table.old) memo.old (clauses table.old number) literal (ending_of result) (splits_of result) (sets_of table.new) memo.new }
+    ensures { Side M.held M.notes (quantifiers_of prefix.now) (C.picks chooser.now) progress.allowance progress.depth progress.splits (sets_of table.old) memo.old (clauses table.old number) literal (ending_of result) (splits_of result) (sets_of table.new) memo.new }
 {
     let Ok(rest) = set_true(table, number, literal) else {
         return Err(progress.end(Halt::Full));

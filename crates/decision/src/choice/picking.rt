@@ -15,7 +15,7 @@ use table::Table;
 pub fn choose<C: Chooser>(table: &Table, chooser: &C, prefix: &Prefix, number: u16) -> Choice
     requires ready { Ready (quantifiers_of prefix.now) table.now number }
     requires shown { 0 < length (candidates (quantifiers_of prefix.now) (clauses table.now number)) }
-    ensures { Chosen (quantifiers_of prefix.now) (picks chooser.now) (clauses table.now number) result }
+    ensures { Chosen (quantifiers_of prefix.now) (C.picks chooser.now) (clauses table.now number) result }
 {
     let candidates = find_candidates(table, prefix, number);
     let position = chooser.choose(candidates.list());

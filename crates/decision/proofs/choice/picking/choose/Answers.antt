@@ -14,4 +14,4 @@ invariant_of-result g c =
     let shown = c.list.ensures ∙ c.find_candidates-candidates.ensures.list in
     let some : 0 < length c.list.result.now = rw shown c.requires.shown in
     let within = position_within (g.C.Chooser.picks c.args.chooser.now) (g.met.C.Chooser.listed c.args.chooser.now) c.args.prefix.now (clauses c.args.table.now c.args.number) _ _ shown some c.choose-position.ensures in
-    (within.1, tt)
+    record { bound = within.1 }
