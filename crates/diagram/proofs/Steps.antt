@@ -1,4 +1,4 @@
--- One step of any operation: a set is made by its two sides, the with_side first.
+-- One step of any operation: a set is made by its two sides, the with-side first.
 use Rattle.std.proofs.Common.{◌≡◌, ℕ, List, [], ◌∷◌, Ok, Err, Result, sym, refl, ap, ◌∙◌, subst, inl, inr}
 use Rattle.qbf.specs.Nodes.{Node as NodeOf}
 use Rattle.sets.specs.Sides.{Over, joined}

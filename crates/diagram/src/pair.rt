@@ -31,7 +31,7 @@ fn lowest(table: &Table, a: u16, b: u16) -> u16
     if other < code { other } else { code }
 }
 
-// The sides of a set at a code that is at most its lowest: where it is lower, the with_side is empty.
+// The sides of a set at a code that is at most its lowest: where it is lower, the with-side is empty.
 fn sides_at(table: &Table, number: u16, code: u16) -> Sides
     requires held { Number table.now number }
     requires from { From code (clauses table.now number) }

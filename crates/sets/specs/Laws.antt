@@ -43,7 +43,7 @@ FormsStay = (l : ℕ) (s t : List (List ℕ)) → Canonical s → Canonical t �
 abbrev pub OneForm : Type 0
 OneForm = (s t : List (List ℕ)) → Canonical s → Canonical t → ((c : List ℕ) → In c s ↔ In c t) → s ≡ t
 
--- a set with a non-empty clause is its with_side, with the lowest code in front, and its without_side
+-- a set with a non-empty clause is its with-side, with the lowest code in front, and its without-side
 abbrev pub SidesMake : Type 0
 SidesMake = (k : ℕ) (c : List ℕ) (s : List (List ℕ)) → Canonical ((k ∷ c) ∷ s) → (k ∷ c) ∷ s ≡ joined k (with_side k ((k ∷ c) ∷ s)) (without_side k ((k ∷ c) ∷ s))
 

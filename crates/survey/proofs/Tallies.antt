@@ -19,7 +19,7 @@ kept_few p (c ∷ s) = let ih = kept_few p s in grind (arith, nat_tests)
 few_held : (l : ℕ) (s : List (List ℕ)) → length (holding l s) ≤ length s
 few_held l s = kept_few (mem l) s
 
--- the set n of the table t by its node x; the counts were c0, and c1 after the with_side
+-- the set n of the table t by its node x; the counts were c0, and c1 after the with-side
 module _ (t : Table) (n : ℕ) (x : Node) (o : Opens t n x) (c0 : List ℕ) (room : Roomy (length (clauses t n)) c0) where
   abbrev hi : List (List ℕ)
   hi = clauses t x.with

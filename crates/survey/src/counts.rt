@@ -13,7 +13,7 @@ pub struct Counts {
 }
 
 impl Counts {
-    // Each clause of a with_side is one more for the node's code.
+    // Each clause of a with-side is one more for the node's code.
     fn add(&mut self, code: u16, more: u16)
         requires coded { code < 512 }
         requires room { slice_index self.old.at code + more < 65536 }

@@ -13,7 +13,7 @@ pub struct Units {
     ghost long: { length at ≡ 512 },
 }
 
-// A node's code stands alone in a clause exactly if the empty clause is in its with_side.
+// A node's code stands alone in a clause exactly if the empty clause is in its with-side.
 pub fn find_units(table: &Table, number: u16) -> Units
     requires { Number table.now number }
     ensures { UnitsOf (clauses table.now number) result.at }

@@ -120,7 +120,7 @@ found_joins xs count code hi lo n s f =
       only = λ l. absurd (let no : ⊥ = omega arith in no);
     }
 
--- a set with an empty with_side
+-- a set with an empty with-side
 pub bare_joins : (xs : List Node) (count code hi lo : ℕ) → hi ≡ 0 → lo < count + 2 → Joins xs count code hi lo xs count lo
 bare_joins xs count code hi lo zero-hi h = record {
   extends = extends_same xs count;

@@ -15,7 +15,7 @@ node_at xs k = slice_index_or xs k nowhere
 abbrev pub Above : List Node → ℕ → ℕ → Type 0
 Above xs c n = 2 ≤ n → c < (node_at xs (n - 2)).code
 
--- no with_side is number 0
+-- no with-side is number 0
 abbrev pub Filled : List Node → ℕ → Type 0
 Filled xs count = (k : ℕ) → k < count → 0 < (node_at xs k).with
 
@@ -35,7 +35,7 @@ Apart xs count = (j k : ℕ) → j < k → k < count → node_at xs j ≢ node_a
 abbrev pub Coded : List Node → ℕ → Type 0
 Coded xs count = (k : ℕ) → k < count → (node_at xs k).code < 512
 
--- the set that the number n stands for, by the first k nodes: the clauses of the with_side with the node's code in front, then those of the without_side
+-- the set that the number n stands for, by the first k nodes: the clauses of the with-side with the node's code in front, then those of the without-side
 unfoldable pub family : List Node → ℕ → ℕ → List (List ℕ)
 family xs zero n = cond (n == 1) ([] ∷ []) []
 family xs (suc k) n = cond (n == suc (suc k)) (joined (node_at xs k).code (family xs k (node_at xs k).with) (family xs k (node_at xs k).without)) (family xs k n)

@@ -3,7 +3,7 @@ ghost use Rattle.std.specs.Prelude.{◌≡◌, ◌<◌, max, length, set, slice_
 
 use lookup::Keyed;
 
-// A set by its lowest code, the number of its with_side and that of its without_side.
+// A set by its lowest code, the number of its with-side and that of its without-side.
 #[derive(Clone, Copy, PartialEq, Eq, Debug)]
 pub struct Node {
     pub code: u16,

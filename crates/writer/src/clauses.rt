@@ -1,4 +1,4 @@
-// The clauses of a set of the table, in their order: those of the with_side first, and then those of the without_side.
+// The clauses of a set of the table, in their order: those of the with-side first, and then those of the without-side.
 ghost use Rattle.std.specs.Prelude.{◌≡◌, ◌*◌, ◌≤◌, length};
 ghost use Rattle.table.specs.Tables.{Number, clauses};
 ghost use Rattle.writer.specs.Paths.{codes_of, Below, lines_below};

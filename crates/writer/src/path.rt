@@ -3,7 +3,7 @@ mod work;
 
 ghost use Rattle.std.specs.Prelude.{◌≤◌};
 
-// The codes of the nodes at which the way took the with_side. They rise, so that there are at most 512.
+// The codes of the nodes at which the way took the with-side. They rise, so that there are at most 512.
 #[derive(Clone, Copy)]
 pub struct Path {
     codes: [u16; 512],

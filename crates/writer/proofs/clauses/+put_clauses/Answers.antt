@@ -27,7 +27,7 @@ returns-then-number-eq1 t c = record {
 pub push-requires : goal.push-requires
 push-requires t c = short c.args.table.now c.args.number c.node-node.result c.requires.held c.node-node.ensures _ (codes_of c.args.path.now) c.requires.below
 
--- what comes first: the lines of the with_side
+-- what comes first: the lines of the with-side
 with-next : (t : ℕ) (c : goal.After-push t) →
     let x = c.args.table.now in
     let longer = codes_of c.push.new.self in
@@ -56,7 +56,7 @@ pop-requires t c = let l = ap length (c.put_clauses-end.ensures.path ∙ c.push.
 again : (t : ℕ) (c : goal.After-pop t) → codes_of c.pop.new.self ≡ codes_of c.args.path.now
 again t c = popped (codes_of c.args.path.now) (codes_of c.put_clauses-end.new.path) (codes_of c.pop.new.self) c.node-node.result.code (c.put_clauses-end.ensures.path ∙ c.push.ensures) c.pop.ensures
 
--- and then the lines of the without_side
+-- and then the lines of the without-side
 without-next : (t : ℕ) (c : goal.After-pop t) →
     let x = c.args.table.now in
     let prefix = c.args.prefix.now in
