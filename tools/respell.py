@@ -34,6 +34,7 @@ OTHER = {
     "stored-stands": "stored_stands_lem",
     "texts-stand": "texts_stand_lem",
     "words-stand": "words_stand_lem",
+    "Goes_on": "GoesOn",
 }
 
 # Lemmas of std that a proof's first word is read as a definition of.
