@@ -1,6 +1,5 @@
 // Refused ahead of the problem line and in it.
 use crate::outcomes::{Refused, expect_all_refused};
-use std::test::Fail;
 
 // Ahead of the problem line stand comments and blank lines alone.
 const AHEAD: [Refused; 16] = [
@@ -137,16 +136,16 @@ const NUMBERS: [Refused; 20] = [
 ];
 
 #[test]
-fn ahead_of_the_problem_line(rt: HostRuntime) -> Result<(), Fail> {
-    expect_all_refused(&rt, &AHEAD)
+fn ahead_of_the_problem_line(rt: HostRuntime) {
+    expect_all_refused(&rt, &AHEAD);
 }
 
 #[test]
-fn problem_line(rt: HostRuntime) -> Result<(), Fail> {
-    expect_all_refused(&rt, &PROBLEM_LINE)
+fn problem_line(rt: HostRuntime) {
+    expect_all_refused(&rt, &PROBLEM_LINE);
 }
 
 #[test]
-fn numbers_of_the_problem_line(rt: HostRuntime) -> Result<(), Fail> {
-    expect_all_refused(&rt, &NUMBERS)
+fn numbers_of_the_problem_line(rt: HostRuntime) {
+    expect_all_refused(&rt, &NUMBERS);
 }

@@ -47,23 +47,24 @@ fn bytes(rt: HostRuntime) -> Result<(), Fail> {
     let text = padded(b"p cnf 0 0\n", b'\n');
     let formula = expect_formula(&text[0..60000])?;
     expect_numbers(&rt, &formula, 0, 0, 0, Quantifier::Universal);
-    expect_refused(&rt, &text, 1, 60000)?;
+    expect_refused(&rt, &text, 1, 60000);
     // the last of the 60,000 bytes is no line end
     let text = padded(b"p cnf 0 0\n", b' ');
-    expect_refused(&rt, &text[0..60000], 2, 60000)?;
-    expect_refused(&rt, &text, 1, 60000)?;
+    expect_refused(&rt, &text[0..60000], 2, 60000);
+    expect_refused(&rt, &text, 1, 60000);
     // it is a word that may not stand there
     let text = padded(b"p cnf 0 0\n", b'x');
-    expect_refused(&rt, &text[0..60000], 2, 59999)?;
-    expect_refused(&rt, &text, 1, 60000)?;
+    expect_refused(&rt, &text[0..60000], 2, 59999);
+    expect_refused(&rt, &text, 1, 60000);
     // the first byte is such a word
     let text = padded(b"x", b'\n');
-    expect_refused(&rt, &text[0..60000], 2, 0)?;
-    expect_refused(&rt, &text, 1, 60000)?;
+    expect_refused(&rt, &text[0..60000], 2, 0);
+    expect_refused(&rt, &text, 1, 60000);
     // the problem line is missing
     let text = padded(b"", b'\n');
-    expect_refused(&rt, &text[0..60000], 2, 60000)?;
-    expect_refused(&rt, &text, 1, 60000)
+    expect_refused(&rt, &text[0..60000], 2, 60000);
+    expect_refused(&rt, &text, 1, 60000);
+    Ok(())
 }
 
 // The longest clause: 16 bytes of head, 29,991 literals of two bytes each, all the same, and the 0 with its line end.
@@ -74,7 +75,7 @@ fn literals(rt: HostRuntime) -> Result<(), Fail> {
         text.push_str("1 ")?;
     }
     // the clause is not finished
-    expect_refused(&rt, text.as_bytes(), 2, 59998)?;
+    expect_refused(&rt, text.as_bytes(), 2, 59998);
     text.push_str("0\n")?;
     assert_eq!(rt; text.len(), 60000);
     let formula = expect_formula(text.as_bytes())?;
@@ -113,9 +114,10 @@ fn clauses(rt: HostRuntime) -> Result<(), Fail> {
         expect_clause(&rt, &formula.clauses, usize::from(place), &codes);
     }
     text.push_str("1 0\n")?;
-    expect_refused(&rt, text.as_bytes(), 6, 16393)?;
+    expect_refused(&rt, text.as_bytes(), 6, 16393);
     // the last of the 2,048 is "64 96 0" with its line end
-    expect_refused(&rt, &text.as_bytes()[0..16385], 6, 16385)
+    expect_refused(&rt, &text.as_bytes()[0..16385], 6, 16385);
+    Ok(())
 }
 
 // All of 256 variables are bound; the last has the greatest codes.

@@ -18,20 +18,17 @@ pub(crate) struct Accepted {
     pub clauses: &'static [&'static [u16]],
 }
 
-// The text is refused by the rule of this number, at this offset.
-pub(crate) fn expect_refused(
-    rt: &impl Abort,
-    text: &[u8],
-    number: u8,
-    at: usize,
-) -> Result<(), Fail> {
+// The number of the rule by which a text is refused, and the offset that is told.
+fn refusal(text: &[u8]) -> Option<(u8, usize)> {
     match reader::read(text) {
-        Ok(_) => Err(Fail::new("the text is accepted")),
-        Err(fault) => {
-            assert_eq!(rt; (fault.rule.number(), fault.at), (number, at));
-            Ok(())
-        },
+        Ok(_) => None,
+        Err(fault) => Some((fault.rule.number(), fault.at)),
     }
+}
+
+// The text is refused by the rule of this number, at this offset.
+pub(crate) fn expect_refused(rt: &impl Abort, text: &[u8], number: u8, at: usize) {
+    assert_eq!(rt; refusal(text), Some((number, at)));
 }
 
 // The formula of a text that is to be accepted.
@@ -46,43 +43,44 @@ pub(crate) fn expect_formula(text: &[u8]) -> Result<Formula, Fail> {
     }
 }
 
-pub(crate) fn expect_all_refused(rt: &impl Abort, rows: &[Refused]) -> Result<(), Fail> {
+pub(crate) fn expect_all_refused(rt: &impl Abort, rows: &[Refused]) {
     for row in rows {
         let Refused(text, number, at) = *row;
-        expect_refused(rt, text.as_bytes(), number, at).note(format_args!("{text:?}"))?;
+        assert_eq!(rt; refusal(text.as_bytes()), Some((number, at)), "{text:?}");
     }
-    Ok(())
 }
 
 pub(crate) fn expect_all_accepted(rt: &impl Abort, rows: &[Accepted]) -> Result<(), Fail> {
     for row in rows {
-        let text = row.text;
-        expect_accepted(rt, row).note(format_args!("{text:?}"))?;
+        expect_accepted(rt, row)?;
     }
     Ok(())
 }
 
 fn expect_accepted(rt: &impl Abort, row: &Accepted) -> Result<(), Fail> {
-    let formula = expect_formula(row.text.as_bytes())?;
-    assert_eq!(rt; formula.variables, row.variables);
-    assert_eq!(rt; formula.declared, row.declared);
-    expect_prefix(rt, &formula.prefix, row.prefix);
-    expect_clauses(rt, &formula.clauses, row.clauses);
+    let text = row.text;
+    assert_eq!(rt; refusal(text.as_bytes()), None, "{text:?}");
+    let formula = expect_formula(text.as_bytes())?;
+    assert_eq!(rt; formula.variables, row.variables, "{text:?}");
+    assert_eq!(rt; formula.declared, row.declared, "{text:?}");
+    expect_prefix(rt, text, &formula.prefix, row.prefix);
+    assert_eq!(rt; formula.clauses.len(), row.clauses.len(), "{text:?}");
+    for (place, codes) in row.clauses.iter().enumerate() {
+        assert!(rt; place < formula.clauses.len(), "{text:?}");
+        assert_eq!(rt; formula.clauses.clause(place), *codes, "{text:?}");
+    }
     Ok(())
 }
 
-fn expect_prefix(rt: &impl Abort, prefix: &Prefix, expected: &[(Quantifier, u16)]) {
+fn expect_prefix(rt: &impl Abort, text: &str, prefix: &Prefix, expected: &[(Quantifier, u16)]) {
     let bindings = prefix.bindings();
-    assert_eq!(rt; bindings.len(), expected.len());
+    assert_eq!(rt; bindings.len(), expected.len(), "{text:?}");
     for (binding, expected) in bindings.iter().zip(expected) {
-        assert_eq!(rt; (binding.quantifier, binding.variable), *expected);
-    }
-}
-
-fn expect_clauses(rt: &impl Abort, clauses: &ClauseList, expected: &[&[u16]]) {
-    assert_eq!(rt; clauses.len(), expected.len());
-    for (place, codes) in expected.iter().enumerate() {
-        expect_clause(rt, clauses, place, *codes);
+        assert_eq!(rt;
+            (binding.quantifier, binding.variable),
+            *expected,
+            "{text:?}"
+        );
     }
 }
 

@@ -1,7 +1,6 @@
 // Refused in a prefix line or behind one. The problem line has 10 bytes, so that the first prefix line begins at 10
 // and its first variable at 12.
 use crate::outcomes::{Refused, expect_all_refused};
-use std::test::Fail;
 
 const ROWS: [Refused; 36] = [
     // the text ends behind the quantifier
@@ -87,7 +86,7 @@ const GREATEST: [Refused; 2] = [
 ];
 
 #[test]
-fn prefix_lines(rt: HostRuntime) -> Result<(), Fail> {
-    expect_all_refused(&rt, &ROWS)?;
-    expect_all_refused(&rt, &GREATEST)
+fn prefix_lines(rt: HostRuntime) {
+    expect_all_refused(&rt, &ROWS);
+    expect_all_refused(&rt, &GREATEST);
 }
