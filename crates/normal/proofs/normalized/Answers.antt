@@ -1,4 +1,4 @@
-use Rattle.std.proofs.Common.{◌≡◌, ℕ, ◌*◌, ◌<◌, ◌≤◌, List, [], length, sym, refl, subst}
+use Rattle.std.proofs.Common.{ℕ, ◌*◌, ◌<◌, ◌≤◌, List, length, sym, refl, subst}
 use Rattle.std.specs.List.{AllByRecursion}
 use Rattle.std.proofs.lemmas.Result.{err_from_is_err_and}
 use Rattle.formula.specs.Views.{reading, bindings_of}
@@ -8,46 +8,46 @@ use Rattle.normal.proofs.Crowds.{crowded}
 use Rattle.writer.proofs.Facts.{stored_coded, set_within, set_few}
 use Rattle.normal.proofs.normalized.Goals as goal
 
-pub store-clauses-requires : goal.store-clauses-requires
-store-clauses-requires c = stored_coded c.in-ok-formula.formula ((c.in-ok-formula.ensures.accepted (reading c.in-ok-formula.formula)).0 refl)
+pub store_clauses-requires : goal.store_clauses-requires
+store_clauses-requires c = stored_coded c.in_ok-formula.formula ((c.in_ok-formula.ensures.accepted (reading c.in_ok-formula.formula)).0 refl)
 
-pub returns-in-err-number : goal.returns-in-err-number
-returns-in-err-number c =
-    let f = c.in-ok-formula.formula in
-    let p = err_from_is_err_and c.from-residual-in-err-number.result c.from-residual-in-err-number.ensures.1 in
+pub returns-in_err-number : goal.returns-in_err-number
+returns-in_err-number c =
+    let f = c.in_ok-formula.formula in
+    let p = err_from_is_err_and c.from_residual-in_err-number.result c.from_residual-in_err-number.ensures.1 in
     rw (p.1, p.2) (
       reading f,
-      (c.in-ok-formula.ensures.accepted (reading f)).0 refl,
-      crowded c.new-table.result _ c.store-clauses.new.table c.new-table.ensures c.in-err-number.ensures.cases,
+      (c.in_ok-formula.ensures.accepted (reading f)).0 refl,
+      crowded c.new-table.result _ c.store_clauses.new.table c.new-table.ensures c.in_err-number.ensures.cases,
       refl,
     )
 
 pub write-requires : goal.write-requires
 write-requires c =
-    let f = c.in-ok-formula.formula in
-    let format = (c.in-ok-formula.ensures.accepted (reading f)).0 refl in
-    let is = c.in-ok-number.ensures.cases.1 in
+    let f = c.in_ok-formula.formula in
+    let format = (c.in_ok-formula.ensures.accepted (reading f)).0 refl in
+    let is = c.in_ok-number.ensures.cases.1 in
     record {
       held = is.held;
       bound = subst (AllByRecursion (AllByRecursion (λ (k : ℕ). k < 2 * length (bindings_of f.prefix)))) (sym is.means) (set_within format);
       few = subst (λ (s : List (List ℕ)). length s ≤ 2048) (sym is.means) (set_few format);
     }
 
-pub returns-in-err-len : goal.returns-in-err-len
-returns-in-err-len c =
-    let f = c.in-ok-formula.formula in
-    let p = err_from_is_err_and c.from-residual-in-err-len.result c.from-residual-in-err-len.ensures.1 in
-    let needed = c.in-err-len.field-0.0.needed in
+pub returns-in_err-len : goal.returns-in_err-len
+returns-in_err-len c =
+    let f = c.in_ok-formula.formula in
+    let p = err_from_is_err_and c.from_residual-in_err-len.result c.from_residual-in_err-len.ensures.1 in
+    let needed = c.in_err-len.field-0.0.needed in
     rw (p.1, p.2) (
       reading f,
-      (c.in-ok-formula.ensures.accepted (reading f)).0 refl,
-      subst (λ (s : List (List ℕ)). Short (render f.variables (bindings_of f.prefix) s) c.args.buffer.now c.write.new.buffer needed) c.in-ok-number.ensures.cases.1.means c.in-err-len.ensures,
+      (c.in_ok-formula.ensures.accepted (reading f)).0 refl,
+      subst (λ (s : List (List ℕ)). Short (render f.variables (bindings_of f.prefix) s) c.args.buffer.now c.write.new.buffer needed) c.in_ok-number.ensures.cases.1.means c.in_err-len.ensures,
     )
 
 pub returns : goal.returns
 returns c =
-    let f = c.in-ok-formula.formula in (
+    let f = c.in_ok-formula.formula in (
       reading f,
-      (c.in-ok-formula.ensures.accepted (reading f)).0 refl,
-      subst (λ (s : List (List ℕ)). Written (render f.variables (bindings_of f.prefix) s) c.args.buffer.now c.write.new.buffer c.in-ok-len.len) c.in-ok-number.ensures.cases.1.means c.in-ok-len.ensures,
+      (c.in_ok-formula.ensures.accepted (reading f)).0 refl,
+      subst (λ (s : List (List ℕ)). Written (render f.variables (bindings_of f.prefix) s) c.args.buffer.now c.write.new.buffer c.in_ok-len.len) c.in_ok-number.ensures.cases.1.means c.in_ok-len.ensures,
     )
