@@ -1,5 +1,5 @@
 -- A refusal is told as its answer is.
-use Rattle.std.proofs.Common.{◌≡◌, ℕ, Bool, Ok, Err, Result, sym, refl, ap}
+use Rattle.std.proofs.Common.{◌≡◌, ℕ, Bool, Ok, Err, sym, refl, ap}
 use Rattle.qbf.specs.Decision.{full, spent, too_deep}
 use Rattle.decision.specs.declared.unfinished.Halt.{Halt}
 use Rattle.decision.specs.declared.unfinished.Halt.TheVariants.{Full, Spent, TooDeep}
@@ -8,7 +8,6 @@ use Rattle.decision.specs.Endings.{refusal, ending_of, splits_of}
 use Rattle.ledger.specs.Answers.{LoadAnswer, loaded, unread, load_full, DecideAnswer, found, undecided, nothing_to_decide, allowance_too_large, answer, WriteAnswer, written, nothing_to_write, too_short, load_told, decide_told, write_told}
 use Rattle.histories.proofs.Cases.{one_ok, ok_err}
 use Rattle.session.specs.declared.answer.Loaded.{Loaded}
-use Rattle.session.specs.declared.fault.Fault.{Fault}
 use Rattle.session.specs.declared.fault.Fault.TheVariants.{Undecided}
 use Rattle.session.specs.Answers.{load_result, halted, decide_result, write_result}
 use Rattle.session.specs.Laws.{told, FaultsTold}

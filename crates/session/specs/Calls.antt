@@ -1,5 +1,5 @@
 -- What each call of a session owes.
-use Rattle.std.specs.Prelude.{◌≡◌, ℕ, Bool, List, ◌∷◌, length, Some, Ok, Err, Result}
+use Rattle.std.specs.Prelude.{◌≡◌, ℕ, Bool, List, ◌∷◌, Some, Ok, Err, Result}
 use Rattle.qbf.specs.declared.Candidate.{Candidate}
 use Rattle.qbf.specs.Memo.{Pairs}
 use Rattle.formula.specs.declared.prefix.Binding.{Binding}

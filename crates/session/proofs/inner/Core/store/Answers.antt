@@ -32,19 +32,13 @@ invariant_of-self-2 c =
     let read = c.requires.read.1 in
     let is = c.in_ok-number.ensures.cases.1 in
     let u = c.store_clauses.new.table in
-    let stored : Stored = record { variables = f.variables; number = c.in_ok-number.number } in (
-      λ g e. bound_by prefix (bindings_of f.prefix) under,
-      (
-        λ g e. stored_held u prefix (bindings_of f.prefix) stored under g e is.held,
-        (
-          λ g e. stored_few u prefix (bindings_of f.prefix) stored under g e (subst (λ (s : List (List ℕ)). length s ≤ 2048) (sym is.means) (set_few read)),
-          (
-            λ g e. stored_within u prefix (bindings_of f.prefix) stored under g e (subst (AllByRecursion (AllByRecursion (λ (k : ℕ). k < 2 * length (bindings_of f.prefix)))) (sym is.means) (set_within read)),
-            tt,
-          ),
-        ),
-      ),
-    )
+    let stored : Stored = record { variables = f.variables; number = c.in_ok-number.number } in
+    record {
+      bound = λ g e. bound_by prefix (bindings_of f.prefix) under;
+      held = λ g e. stored_held u prefix (bindings_of f.prefix) stored under g e is.held;
+      few = λ g e. stored_few u prefix (bindings_of f.prefix) stored under g e (subst (λ (s : List (List ℕ)). length s ≤ 2048) (sym is.means) (set_few read));
+      within = λ g e. stored_within u prefix (bindings_of f.prefix) stored under g e (subst (AllByRecursion (AllByRecursion (λ (k : ℕ). k < 2 * length (bindings_of f.prefix)))) (sym is.means) (set_within read));
+    }
 
 pub returns : goal.returns
 returns c =
