@@ -1,18 +1,16 @@
 -- What the answers of a new session mean.
-use Rattle.std.proofs.Common.{◌≡◌, ℕ, ◌<◌, ◌≤◌, Bool, true, false, List, [], ◌∷◌, ◌++◌, Some, None, Ok, Err, Option, Result, sym, refl, ap, ◌∙◌, subst, arith}
-use Rattle.std.proofs.lemmas.Bool.Decides.{nat_tests}
+use Rattle.std.proofs.Common.{◌≡◌, ℕ, ◌<◌, ◌≤◌, List, Some, Ok, Err, Result, sym, refl, ap, ◌∙◌, subst, arith}
 use Rattle.qbf.specs.Memo.{NeverHolds}
 use Rattle.qbf.specs.Nodes.{Crowded}
 use Rattle.qbf.specs.Value.{value}
 use Rattle.qbf.specs.Walk.{Walked, bare}
 use Rattle.qbf.specs.Numbering.{capacity}
-use Rattle.qbf.specs.Decision.{Refusal, full, spent, too_deep, most_open}
+use Rattle.qbf.specs.Decision.{full, spent, too_deep, most_open}
 use Rattle.formula.specs.Views.{Reading}
 use Rattle.grammar.specs.declared.fault.ReadFault.{ReadFault}
 use Rattle.grammar.specs.Grammar.{Format}
 use Rattle.grammar.specs.Steps.{read_all}
 use Rattle.grammar.proofs.Whole.{reading_stands_lem}
-use Rattle.sets.specs.Formed.{forming}
 use Rattle.reduction.specs.Numbered.{quantified}
 use Rattle.memos.specs.Keeps.{keeping_held, keeping_notes}
 use Rattle.choosers.specs.Preferred.{first_picks}
@@ -22,12 +20,12 @@ use Rattle.ledger.specs.Promises.{walk_of, DecisionPromised, promised_verdict, p
 use Rattle.histories.specs.Histories.{AllHonest}
 use Rattle.histories.proofs.Cases.{one_some, none_some, one_err, ok_err}
 use Rattle.session.specs.declared.fault.Fault.{Fault}
-use Rattle.session.specs.declared.fault.Fault.TheVariants.{Unread, NoFormula, AllowanceTooLarge, TooShort, TableFull, Undecided}
+use Rattle.session.specs.declared.fault.Fault.TheVariants.{Unread, TableFull}
 use Rattle.session.specs.Answers.{load_result, decide_result}
 use Rattle.zulfringa.specs.declared.checking.Checked.{Checked}
 use Rattle.zulfringa.specs.Text.{text_value, text_walk, loading_sets, all_sets}
-use Rattle.zulfringa.specs.Checks.{VerdictOn, Halted, OfFormula, Checks}
-use Rattle.zulfringa.specs.BySession.{ComesTo, not_loaded, not_decided, decided, BySession}
+use Rattle.zulfringa.specs.Checks.{Checks}
+use Rattle.zulfringa.specs.BySession.{ComesTo, not_loaded, not_decided, decided}
 use Rattle.zulfringa.specs.Laws.{SessionsCheck}
 use Rattle.theory.proofs.Forming.{value_formed}
 

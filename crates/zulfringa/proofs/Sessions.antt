@@ -13,7 +13,6 @@ use Rattle.session.specs.declared.session.Session.{Session}
 use Rattle.session.specs.Views.{standing}
 use Rattle.session.specs.Calls.{LedTo, Dealt, LoadDealt, DecideDealt}
 use Rattle.session.proofs.Faults.{accepted_answer, verdict_answer}
-use Rattle.zulfringa.specs.declared.checking.Checked.{Checked}
 use Rattle.zulfringa.specs.BySession.{not_loaded, not_decided, decided, BySession}
 
 abbrev Checker : Type 0

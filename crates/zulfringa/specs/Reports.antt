@@ -1,5 +1,5 @@
 -- What the program prints of the answer to a text.
-use Rattle.std.specs.Prelude.{ℕ, Bool, cond, List, ◌∷◌, ◌++◌, Some, None, Ok, Err, codes, decimal, Option, Result}
+use Rattle.std.specs.Prelude.{ℕ, cond, List, ◌∷◌, ◌++◌, Some, None, Ok, Err, codes, decimal, Option, Result}
 use Rattle.session.specs.declared.fault.Fault.{Fault}
 use Rattle.session.specs.Told.{fault_told}
 use Rattle.zulfringa.specs.declared.checking.Checked.{Checked}

@@ -9,7 +9,7 @@ bit false = refl
 pub returns-in-Verdict-clause-writes : goal.returns-in-Verdict-clause-writes
 returns-in-Verdict-clause-writes g c =
     let e = c.from-verdict.ensures ∙ bit c.in-Verdict.checked.verdict in
-    rw c.in-Verdict.is (rw e at c.write.ensures.shows)
+    rw c.in-Verdict.is (rw e at c.write.ensures.writes)
 
 pub returns-in-Refusal-clause-writes : goal.returns-in-Refusal-clause-writes
-returns-in-Refusal-clause-writes g c = rw c.in-Refusal.is c.write-in-Refusal.ensures.shows
+returns-in-Refusal-clause-writes g c = rw c.in-Refusal.is c.write-in-Refusal.ensures.writes
