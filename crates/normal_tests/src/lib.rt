@@ -42,22 +42,22 @@ mod tests {
     ];
 
     fn expect_written(rt: &impl Abort, row: &Row) -> Result<(), Fail> {
+        let text = row.text;
         let mut buffer = [b'.'; 40];
-        match normalized(row.text.as_bytes(), &mut buffer) {
+        match normalized(text.as_bytes(), &mut buffer) {
             Ok(len) => {
-                assert_eq!(rt; len, row.len);
-                assert_eq!(rt; &buffer[..], row.buffer.as_bytes());
+                assert_eq!(rt; len, row.len, "{text:?}");
+                assert_eq!(rt; &buffer[..], row.buffer.as_bytes(), "{text:?}");
                 Ok(())
             }
-            Err(_) => Err(Fail::new("the text is not written")),
+            Err(_) => Err(Fail::new(format_args!("{text:?} is not written"))),
         }
     }
 
     #[test]
     fn texts_are_written(rt: HostRuntime) -> Result<(), Fail> {
         for row in &ROWS {
-            let text = row.text;
-            expect_written(&rt, row).note(format_args!("{text:?}"))?;
+            expect_written(&rt, row)?;
         }
         Ok(())
     }
@@ -69,7 +69,10 @@ mod tests {
         match normalized(b"p cnf 3 2\ne 3 0\na 1 2 0\n3 -1 0\n3 2 0\n", &mut buffer) {
             Err(Unwritten::TooShort(needed)) => {
                 assert_eq!(rt; needed, 37);
-                assert_eq!(rt; &buffer[..], b"....................................");
+                assert_eq!(rt;
+                    &buffer[..],
+                    b"....................................".as_slice()
+                );
                 Ok(())
             }
             _ => Err(Fail::new("the buffer is not too short")),
@@ -83,7 +86,7 @@ mod tests {
         match normalized(b"p cnf 2 1\ne 1 0\n2 0\n", &mut buffer) {
             Err(Unwritten::Unread(fault)) => {
                 assert_eq!(rt; (fault.rule.number(), fault.at), (5, 16));
-                assert_eq!(rt; &buffer[..], b"....");
+                assert_eq!(rt; &buffer[..], b"....".as_slice());
                 Ok(())
             }
             _ => Err(Fail::new("the text is read")),
