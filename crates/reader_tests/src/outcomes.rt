@@ -64,11 +64,7 @@ fn expect_accepted(rt: &impl Abort, row: &Accepted) -> Result<(), Fail> {
     assert_eq!(rt; formula.variables, row.variables, "{text:?}");
     assert_eq!(rt; formula.declared, row.declared, "{text:?}");
     expect_prefix(rt, text, &formula.prefix, row.prefix);
-    assert_eq!(rt; formula.clauses.len(), row.clauses.len(), "{text:?}");
-    for (place, codes) in row.clauses.iter().enumerate() {
-        assert!(rt; place < formula.clauses.len(), "{text:?}");
-        assert_eq!(rt; formula.clauses.clause(place), *codes, "{text:?}");
-    }
+    expect_clauses(rt, text, &formula.clauses, row.clauses);
     Ok(())
 }
 
@@ -81,6 +77,14 @@ fn expect_prefix(rt: &impl Abort, text: &str, prefix: &Prefix, expected: &[(Quan
             *expected,
             "{text:?}"
         );
+    }
+}
+
+fn expect_clauses(rt: &impl Abort, text: &str, clauses: &ClauseList, expected: &[&[u16]]) {
+    assert_eq!(rt; clauses.len(), expected.len(), "{text:?}");
+    for (place, codes) in expected.iter().enumerate() {
+        assert!(rt; place < clauses.len(), "{text:?}");
+        assert_eq!(rt; clauses.clause(place), *codes, "{text:?}");
     }
 }
 
