@@ -1,5 +1,5 @@
 -- What two calls in a row come to.
-use Rattle.std.proofs.Common.{◌≡◌, ℕ, ◌≤◌, Bool, List, ◌∷◌, IfOk, Some, Ok, Err, Option, Result, sym, refl, ap, ◌∙◌, subst}
+use Rattle.std.proofs.Common.{◌≡◌, ℕ, ◌≤◌, Bool, List, ◌∷◌, IfOk, Ok, Err, Option, Result, sym, refl, ap, ◌∙◌, subst}
 use Rattle.qbf.specs.declared.Candidate.{Candidate}
 use Rattle.qbf.specs.Value.{value}
 use Rattle.qbf.specs.Memo.{Pairs, NeverHolds, Retains}
@@ -12,8 +12,8 @@ use Rattle.grammar.proofs.Whole.{reading_stands_lem}
 use Rattle.reduction.specs.Numbered.{quantified}
 use Rattle.theory.proofs.Forming.{value_formed}
 use Rattle.ledger.specs.Answers.{LoadAnswer, loaded, DecideAnswer}
-use Rattle.ledger.specs.Ledger.{Dealing, load, decide, LoadedFormula, Ledger, quantifiers, most_allowed, formula_of, under, loads, ledger}
-use Rattle.ledger.specs.Promises.{CarriedOut, DecisionPromised, promised_verdict, promised_full, promised_spent, promised_deep, promised_nothing, promised_too_large, LoadPromised, promised_loaded, promised_unread, promised_load_full}
+use Rattle.ledger.specs.Ledger.{Dealing, load, decide, LoadedFormula, Ledger, quantifiers, most_allowed, loads, ledger}
+use Rattle.ledger.specs.Promises.{DecisionPromised, promised_verdict, promised_full, promised_spent, promised_deep, promised_nothing, promised_too_large, LoadPromised, promised_loaded, promised_unread, promised_load_full}
 use Rattle.histories.proofs.Cases.{one_some, ok_err}
 use Rattle.histories.proofs.Ledgers.{under_prefix}
 use Rattle.session.specs.declared.answer.Loaded.{Loaded}

@@ -5,7 +5,7 @@ use Rattle.qbf.specs.declared.Candidate.{Candidate}
 use Rattle.qbf.specs.Memo.{Pairs, Kept}
 use Rattle.qbf.specs.Chooser.{Picks}
 use Rattle.script.specs.declared.calls.Call.{Call}
-use Rattle.ledger.specs.Ledger.{Dealing, load, decide, write, forget, ledger}
+use Rattle.ledger.specs.Ledger.{Dealing, load, decide, write, forget}
 use Rattle.histories.specs.Standing.{Standing}
 use Rattle.histories.specs.Histories.{Led}
 use Rattle.histories.specs.Laws.{ByLedger}
