@@ -62,7 +62,7 @@ def bare(text):
 def defined(text):
     """Each name that the text defines, and whether it is a type's."""
     for line in bare(text).split("\n"):
-        m = re.match(r"\s*(?:abbrev |unfoldable )?(?:pub )?(?:abbrev |unfoldable )?(data |record )?(" + NAME + r")\s*((?:[({].*?)?):\s", line)
+        m = re.match(r"\s*(?:abbrev |unfoldable )?(?:pub )?(?:abbrev |unfoldable )?(data |record )?(" + NAME + r")\s*((?:[({].*?)?):(?:\s|$)", line)
         if m and "goal." not in line and m[2] not in ("let", "where", "in"):
             yield m[2], bool(m[1]) or m[2][0].isupper()
         for m in re.finditer(r"[({]((?:" + NAME + r" )+): ", line):

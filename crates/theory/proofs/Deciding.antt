@@ -16,7 +16,7 @@ use Rattle.theory.specs.Deciding.{Overfull, Judged, DecisionRight, DecisionBlank
 use Rattle.theory.proofs.Reduces.{reduce_unfolds, reduced_to, reduces_keeps}
 use Rattle.theory.proofs.Walking.{bare_right}
 use Rattle.theory.proofs.Tables.{in_append_left, in_append_right, gains_none, gains_more, gains_then, overfull_more, stops_gains, stands_later}
-use Rattle.theory.proofs.Splitting.{combine_stops, combine_goes, Halves, reduced_made, reduced_splits, split_value, split-halves}
+use Rattle.theory.proofs.Splitting.{combine_stops, combine_goes, Halves, reduced_made, reduced_splits, split_value, split_halves}
 
 -- reducing over a table is reducing, and the table gains nodes of the sets made
 module _ (prefix : List Quantifier) where
@@ -116,7 +116,7 @@ module _ {M : Type 0} (held : M → Pairs) (notes : M → ℕ → Bool → M →
         gains = g;
         right = right_later prefix (held m) right g;
         value_is = rw c (split_value pick picks prefix s r d.0 un.shown);
-        halves = rw c (split-halves pick picks prefix s r d.0 un.shown);
+        halves = rw c (split_halves pick picks prefix s r d.0 un.shown);
       }
 
   -- the first side, set

@@ -68,7 +68,7 @@ pub data Rule (prefix : List Quantifier) (s : List (List ℕ)) : Step → Type 0
   by_unit : (l : ℕ) → has_unit l s ≡ true → binds Existential prefix (l / 2) ≡ true → Rule prefix s (forced l)
   by_lone : (l : ℕ) → lone l s ≡ true → binds Existential prefix (l / 2) ≡ true → Rule prefix s (forced l)
   by_lone_universal : (l : ℕ) → lone l s ≡ true → binds Universal prefix (l / 2) ≡ true → Rule prefix s (forced (complement l))
-  by-nothing :
+  by_nothing :
       has_empty s ≡ false → none s ≡ false →
       ((l : ℕ) → l < 2 * length prefix → (has_unit l s && binds Universal prefix (l / 2)) ≡ false) →
       ((l : ℕ) → l < 2 * length prefix → (has_unit l s && binds Existential prefix (l / 2)) ≡ false) →
@@ -91,7 +91,7 @@ step_rule prefix s =
     let t = lowest_passes L codes 0 l o in
     let n = lowest_below L codes 0 l o in
     cond_both (binds Existential prefix (l / 2)) _ _ (λ m. K (forced m)) (λ b. by_lone l t b) (λ b. by_lone_universal l t (binds_one prefix (l / 2) (omega arith) b))) (λ c.
-    by-nothing e f
+    by_nothing e f
     (λ l h. lowest_none A codes 0 a l (omega arith) (omega arith))
     (λ l h. lowest_none E codes 0 b l (omega arith) (omega arith))
     (λ l h. lowest_none L codes 0 c l (omega arith) (omega arith)))))))
@@ -113,7 +113,7 @@ rule_keeps {prefix} {s} (by_unit_universal l u b) = unit_all prefix 0 l s (binds
 rule_keeps {prefix} {s} (by_unit l u b) = unit_ex prefix 0 l s (binds_bound Existential prefix 0 (l / 2) l (omega arith) b) (unit_from l s u) ∙ sym (value_assigned_set l s prefix 0)
 rule_keeps {prefix} {s} (by_lone l u b) = lone_ex prefix 0 l s (binds_bound Existential prefix 0 (l / 2) l (omega arith) b) (grind (arith, nat_tests)) ∙ sym (value_assigned_set l s prefix 0)
 rule_keeps {prefix} {s} (by_lone_universal l u b) = lone_all prefix 0 l s (binds_bound Universal prefix 0 (l / 2) l (omega arith) b) (grind (arith, nat_tests)) ∙ sym (value_assigned_set (complement l) s prefix 0)
-rule_keeps (by-nothing e f a b c) = tt
+rule_keeps (by_nothing e f a b c) = tt
 
 pub step_keeps : (prefix : List Quantifier) (s : List (List ℕ)) → Keeps prefix s (step prefix s)
 step_keeps prefix s = rule_keeps (step_rule prefix s)
@@ -188,7 +188,7 @@ rule_falls (by_unit_universal l u b) = tt
 rule_falls {s = s} (by_unit l u b) = let o = unit_occurs l s u in size_falls l s (grind (arith, nat_tests))
 rule_falls {s = s} (by_lone l u b) = size_falls l s (grind (arith, nat_tests))
 rule_falls {s = s} (by_lone_universal l u b) = let f : complement (complement l) ≡ l = omega arith in size_falls (complement l) s (grind (arith, nat_tests))
-rule_falls (by-nothing e f a b c) = tt
+rule_falls (by_nothing e f a b c) = tt
 
 pub step_falls : (prefix : List Quantifier) (s : List (List ℕ)) → Falls s (step prefix s)
 step_falls prefix s = rule_falls (step_rule prefix s)

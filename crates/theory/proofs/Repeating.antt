@@ -14,7 +14,7 @@ use Rattle.qbf.specs.Numbering.{Numbering, nth, stands, Among, Makes, Stops}
 use Rattle.qbf.specs.Decision.{Ending, verdict, ReducesIn, settles, sticks, forces, fills, Unknown, Splits, Decides, by_reducing, full_reducing, recalled, by_allowance, by_depth, full_first, refused_first, first_only, full_second, refused_second, both_sides}
 use Rattle.theory.specs.Repeating.{Known, known_reduced, known_held, Settled, DecisionSettles, Same, DecisionRepeats}
 use Rattle.sets.proofs.Words.{all_in}
-use Rattle.theory.proofs.Reducing.{Rule, by_empty, by_none, by_unit_universal, by_unit, by_lone, by_lone_universal, by-nothing, step_rule}
+use Rattle.theory.proofs.Reducing.{Rule, by_empty, by_none, by_unit_universal, by_unit, by_lone, by_lone_universal, by_nothing, step_rule}
 use Rattle.theory.proofs.Reduces.{reduce_unfolds, reduced_to, reduces_stuck}
 use Rattle.theory.proofs.Tables.{in_append, in_append_left, in_append_right, nth_append}
 use Rattle.theory.proofs.Deciding.{at_forced, reduces_done}
@@ -150,7 +150,7 @@ stuck_some (by_unit_universal l u b) i = absurd (let z : ◌≡◌ {A = ℕ} 0 1
 stuck_some (by_unit l u b) i = absurd (let z : ◌≡◌ {A = ℕ} 0 1 = cc in omega arith)
 stuck_some (by_lone l u b) i = absurd (let z : ◌≡◌ {A = ℕ} 0 1 = cc in omega arith)
 stuck_some (by_lone_universal l u b) i = absurd (let z : ◌≡◌ {A = ℕ} 0 1 = cc in omega arith)
-stuck_some (by-nothing e f a b c) i = (f, e)
+stuck_some (by_nothing e f a b c) i = (f, e)
 
 left_some : (prefix : List Quantifier) (s r : List (List ℕ)) → (reduce prefix s).outcome ≡ left r → (none r ≡ false) × (has_empty r ≡ false)
 left_some prefix s r e = stuck_some (step_rule prefix r) (reduces_stuck prefix (reduced_to prefix s (left r) e))

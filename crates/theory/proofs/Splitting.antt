@@ -106,10 +106,10 @@ module _ (pick : List Candidate → ℕ) (picks : Picks pick) (prefix : List Qua
     branches next q [] k = absurd (omega arith)
     branches next q (c ∷ cs) k = refl
 
-    pub split-halves :
+    pub split_halves :
         Halves (outermost prefix r).quantifier (setting (negative (picked pick (candidates prefix r))) r) (setting (positive (picked pick (candidates prefix r))) r) (bare pick prefix s)
         (bare pick prefix (assigned (negative (picked pick (candidates prefix r))) r)) (bare pick prefix (assigned (positive (picked pick (candidates prefix r))) r))
-    split-halves =
+    split_halves =
         halves _ (reduce prefix s).made _ _ (bare pick prefix s) _ _
         (bare_unfolds pick picks prefix s ∙ ap (λ (o : Outcome). after (reduce prefix s).made (turn pick (bare pick prefix) prefix o)) e ∙
         ap (after (reduce prefix s).made) (branches (bare pick prefix) (outermost prefix r).quantifier (candidates prefix r) h))

@@ -16,7 +16,7 @@ use Rattle.theory.specs.Reducing.{LinesKeep, LinesFall, ReducingKeeps, ReducingC
 use Rattle.theory.specs.Walking.{SomeCandidate}
 use Rattle.sets.proofs.Words.{mem_in, all_in, all_without}
 use Rattle.sets.proofs.Order.{all_union}
-use Rattle.theory.proofs.Reducing.{Rule, by_empty, by_none, by_unit_universal, by_unit, by_lone, by_lone_universal, by-nothing, step_rule, binds_one, step_keeps, step_falls, unit_from, occurs_in}
+use Rattle.theory.proofs.Reducing.{Rule, by_empty, by_none, by_unit_universal, by_unit, by_lone, by_lone_universal, by_nothing, step_rule, binds_one, step_keeps, step_falls, unit_from, occurs_in}
 use Rattle.theory.proofs.Reduces.{Reduces, r_stuck, r_forced, reduced_to, reduces_keeps, reduces_stuck, reduces_canonical}
 use Rattle.theory.proofs.Blocks.{none_ahead, none_from}
 
@@ -63,7 +63,7 @@ clean_from prefix t h (by_unit_universal l u b) i = absurd (let z : ◌≡◌ {A
 clean_from prefix t h (by_unit l u b) i = absurd (let z : ◌≡◌ {A = ℕ} 0 1 = cc in omega arith)
 clean_from prefix t h (by_lone l u b) i = absurd (let z : ◌≡◌ {A = ℕ} 0 1 = cc in omega arith)
 clean_from prefix t h (by_lone_universal l u b) i = absurd (let z : ◌≡◌ {A = ℕ} 0 1 = cc in omega arith)
-clean_from prefix t h (by-nothing e f a b c) i = record {
+clean_from prefix t h (by_nothing e f a b c) i = record {
   some_clause = f;
   no_empty = e;
   no_unit = λ l. elim (cases_Bool (has_unit l t)) [

@@ -1,5 +1,5 @@
 use Rattle.std.proofs.Common.{◌≡◌, ℕ, ◌<◌, false, ◌||◌, List, length, get_or, take, sym, refl, ap, ◌∙◌, subst, arith}
-use Rattle.std.specs.List.{AllByRecursion as All}
+use Rattle.std.specs.List.{AllByRecursion}
 use Rattle.std.proofs.ByRecursion.{All-get_or, All-take}
 use Rattle.std.proofs.lemmas.List.{take_more, take_all}
 use Rattle.qbf.specs.Literals.{complement}
@@ -8,7 +8,7 @@ use Rattle.clause.proofs.Progress.{Progress, progress_old, progress_new, progres
 use Rattle.clause.proofs.Clause.of.Goals as goal
 use Rattle.clause.proofs.Clause.of.Goals.{After-loop-literal, then-has-2, else-has-2}
 
-small : (xs : List ℕ) (i : ℕ) → i < length xs → All (λ x. x < 512) xs → get_or xs i 0 < 512
+small : (xs : List ℕ) (i : ℕ) → i < length xs → AllByRecursion (λ x. x < 512) xs → get_or xs i 0 < 512
 small xs i lt a = All-get_or (λ x. x < 512) xs i 0 lt a
 
 pub has-requires : goal.has-requires
