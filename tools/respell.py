@@ -5,7 +5,8 @@ usage: tools/respell.py [--dry]     at the top of the repository, once, after po
 
 It takes the names that the files of specs/ and proofs/ define: definitions, lemmas, records and their fields, constructors, parameters
 and local names. It turns each wherever it stands as a whole word in the clauses, imports and proofs. Names that Rattle generates
-(goals, steps) and names of the code stay. It stops where two names would fall together.
+(goals, steps) and names of the code stay. It lists where two names would fall together. A word of std that was imported under the
+name of another, AllByRecursion as All, is written out.
 """
 
 import collections
@@ -65,6 +66,11 @@ def defined(text):
         m = re.match(r"\s*(?:abbrev |unfoldable )?(?:pub )?(?:abbrev |unfoldable )?(data |record )?(" + NAME + r")\s*((?:[({].*?)?):(?:\s|$)", line)
         if m and "goal." not in line and m[2] not in ("let", "where", "in"):
             yield m[2], bool(m[1]) or m[2][0].isupper()
+        m = re.match(r"\s+((?:" + NAME + r" )+): ", line)
+        if m and "goal." not in line:
+            for name in m[1].split():
+                if name not in ("pub", "abbrev", "unfoldable"):
+                    yield name, name[0].isupper()
         for m in re.finditer(r"[({]((?:" + NAME + r" )+): ", line):
             for name in m[1].split():
                 yield name, False
@@ -124,6 +130,8 @@ def main(dry):
     whole = re.compile(r"(?<![\w'\-])(" + "|".join(sorted(map(re.escape, names), key=len, reverse=True)) + r")(?![\w'\-])")
     for path, text in list(texts.items()) + list(sources.items()):
         new = whole.sub(lambda m: names[m[1]], text)
+        if "AllByRecursion as All" in new:
+            new = re.sub(r"(?<![\w'\-])All(?![\w'\-])", "AllByRecursion", new.replace("AllByRecursion as All", "AllByRecursion"))
         if new != text:
             with open(path, "w", encoding="utf-8") as f:
                 f.write(new)
