@@ -1,4 +1,4 @@
-// The entry for the editor, which hands over a text and receives one number.
+// The answer to an editor, which hands over a text and receives one number; the crate zulfringa_c exports it to C.
 ghost use Rattle.zulfringa.specs.Stamps.{Stamped};
 
 use crate::checking::check;
@@ -7,8 +7,7 @@ use crate::checking::check;
 const REFUSED: u8 = 10;
 
 // 0 for false, 1 for true, or 10 more than the refusal's number.
-#[unsafe(no_mangle)]
-pub extern "C" fn zulfringa_check(text: &[u8]) -> u8
+pub fn zulfringa_check(text: &[u8]) -> u8
     ensures { Stamped text.now result }
 {
     match check(text) {
