@@ -1,3 +1,3 @@
 pub mod Preferred
 pub mod Laws
-pub mod Unbeaten
+pub mod Listings

@@ -1,7 +1,7 @@
 // The chooser of the variable that occurs in most clauses, counted for each sign, and of the lowest position among equals.
 ghost use Rattle.std.specs.Prelude.{◌≡◌, ◌+◌};
 ghost use Rattle.choosers.specs.Preferred.{load, busier, busiest_picks};
-ghost use Rattle.choosers.specs.Unbeaten.{busiest_listed};
+ghost use Rattle.choosers.specs.Listings.{busiest_listed};
 
 use crate::Chooser;
 use crate::preference::{Preference, preferred_position};

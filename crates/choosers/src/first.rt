@@ -1,6 +1,6 @@
 // The chooser of the lowest position.
 ghost use Rattle.choosers.specs.Preferred.{lower, first_picks};
-ghost use Rattle.choosers.specs.Unbeaten.{first_listed};
+ghost use Rattle.choosers.specs.Listings.{first_listed};
 
 use crate::Chooser;
 use crate::preference::{Preference, preferred_position};

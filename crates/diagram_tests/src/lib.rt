@@ -70,7 +70,7 @@ mod tests {
             Ok(set) => {
                 assert!(rt; set == 1 && table.size() == 0 && holds_empty(&table, set));
                 Ok(())
-            },
+            }
             Err(e) => Err(full(e)),
         }
     }
@@ -82,7 +82,7 @@ mod tests {
             Ok(set) => {
                 assert!(rt; count_nodes(&table, set) == 1 && find_units(&table, set).at[0]);
                 Ok(())
-            },
+            }
             Err(e) => Err(full(e)),
         }
     }
@@ -107,7 +107,7 @@ mod tests {
             Ok(set) => {
                 assert!(rt; count_nodes(&table, set) == 4 && table.size() == 5);
                 Ok(())
-            },
+            }
             Err(e) => Err(full(e)),
         }
     }
@@ -119,7 +119,7 @@ mod tests {
             Ok(set) => {
                 assert!(rt; count_nodes(&table, set) == 3);
                 Ok(())
-            },
+            }
             Err(e) => Err(full(e)),
         }
     }
@@ -131,7 +131,7 @@ mod tests {
             Ok(set) => {
                 assert!(rt; count_nodes(&table, set) == 6);
                 Ok(())
-            },
+            }
             Err(e) => Err(full(e)),
         }
     }
@@ -147,7 +147,7 @@ mod tests {
             Ok(rest) => {
                 assert!(rt; find_units(&table, rest).at[3] && !find_units(&table, rest).at[2]);
                 Ok(())
-            },
+            }
             Err(e) => Err(full(e)),
         }
     }

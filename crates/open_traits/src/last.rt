@@ -1,8 +1,6 @@
 // A chooser of the last candidate that it is shown.
 ghost use Rattle.open_traits.specs.Lasts.{last_position};
-ghost use Rattle.std.specs.Prelude.{◌-◌, length};
-ghost use Rattle.std.proofs.Common.{arith};
-ghost use Rattle.open_traits.specs.Shown.{shown_listed};
+ghost use Rattle.open_traits.specs.Shown.{last_listed};
 
 use choosers::Chooser;
 use qbf::Candidate;
@@ -13,7 +11,7 @@ pub struct Last;
 impl Chooser for Last {
     ghost picks = { λ _. last_position };
 
-    ghost listed = { λ s cs h. shown_listed cs (length cs - 1) _ (omega arith) };
+    ghost listed = { λ _. last_listed };
 
     fn choose(&self, candidates: &[Candidate]) -> u16 {
         candidates[candidates.len() - 1].position

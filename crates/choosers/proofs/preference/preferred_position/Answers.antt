@@ -1,5 +1,5 @@
 use Rattle.std.proofs.Common.{true, false}
-use Rattle.choosers.specs.Unbeaten.{left_more, left_all}
+use Rattle.choosers.proofs.Unbeaten.{left_more, left_all}
 use Rattle.choosers.proofs.preference.preferred_position.Goals as goal
 use Rattle.choosers.proofs.preference.preferred_position.Goals.{then-prefers, else-prefers}
 

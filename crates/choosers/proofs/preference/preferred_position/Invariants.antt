@@ -1,4 +1,4 @@
-use Rattle.choosers.specs.Unbeaten.{Left}
+use Rattle.choosers.proofs.Unbeaten.{Left}
 use Rattle.choosers.proofs.preference.preferred_position.Given as goal
 
 abbrev pub invariant-loop-candidate : goal.invariant-loop-candidate

@@ -28,13 +28,13 @@ pub push-requires : goal.push-requires
 push-requires t c = short c.args.table.now c.args.number c.node-node.result c.requires.held c.node-node.ensures _ (codes_of c.args.path.now) c.requires.below
 
 -- what comes first: the lines of the with-side
-with-next : (t : ℕ) (c : goal.After-push t) →
+with_next : (t : ℕ) (c : goal.After-push t) →
     let x = c.args.table.now in
     let longer = codes_of c.push.new.self in
     let path = codes_of c.args.path.now in
     let prefix = c.args.prefix.now in
     Writing c.args.buffer.now c.args.at (lines_below prefix path (clauses x c.args.number)) (lines_below prefix longer (clauses x c.node-node.result.with) ++ lines_below prefix path (clauses x c.node-node.result.without)) c.args.buffer.now c.args.at
-with-next t c = rest_as (lines_split c.args.table.now c.args.number c.node-node.result c.requires.held c.node-node.ensures _ _ _ _ c.push.ensures refl) begun
+with_next t c = rest_as (lines_split c.args.table.now c.args.number c.node-node.result c.requires.held c.node-node.ensures _ _ _ _ c.push.ensures refl) begun
 
 pub put_clauses-end-requires : goal.put_clauses-end-requires
 put_clauses-end-requires t c =
@@ -44,7 +44,7 @@ put_clauses-end-requires t c =
         omega (arith, o.with_less, c.requires.held),
         (
           below_high c.args.table.now c.args.number c.node-node.result c.requires.held o _ _ c.requires.below _ c.push.ensures,
-          next_room_lem _ _ (with-next t (goal.at.put_clauses-end-requires t c).After-push) c.requires.room,
+          next_room_lem _ _ (with_next t (goal.at.put_clauses-end-requires t c).After-push) c.requires.room,
         ),
       ),
     )
@@ -57,11 +57,11 @@ again : (t : ℕ) (c : goal.After-pop t) → codes_of c.pop.new.self ≡ codes_o
 again t c = popped (codes_of c.args.path.now) (codes_of c.put_clauses-end.new.path) (codes_of c.pop.new.self) c.node-node.result.code (c.put_clauses-end.ensures.path ∙ c.push.ensures) c.pop.ensures
 
 -- and then the lines of the without-side
-without-next : (t : ℕ) (c : goal.After-pop t) →
+without_next : (t : ℕ) (c : goal.After-pop t) →
     let x = c.args.table.now in
     let prefix = c.args.prefix.now in
     Writing c.args.buffer.now c.args.at (lines_below prefix (codes_of c.args.path.now) (clauses x c.args.number)) (lines_below prefix (codes_of c.pop.new.self) (clauses x c.node-node.result.without)) c.put_clauses-end.new.buffer c.put_clauses-end.result
-without-next t c =
+without_next t c =
     next _ _ (rest_as (lines_split c.args.table.now c.args.number c.node-node.result c.requires.held c.node-node.ensures _ _ _ _ c.push.ensures (again t c)) begun) c.put_clauses-end.ensures.text
 
 pub put_clauses-requires : goal.put_clauses-requires
@@ -73,7 +73,7 @@ put_clauses-requires t c =
         omega (arith, o.without_less, c.requires.held),
         (
           below_low c.args.table.now c.args.number c.node-node.result c.requires.held o _ _ c.requires.below _ (again t d),
-          last_room _ (without-next t d) c.requires.room,
+          last_room _ (without_next t d) c.requires.room,
         ),
       ),
     )
@@ -81,4 +81,4 @@ put_clauses-requires t c =
 pub returns : goal.returns
 returns t c =
     let d = (goal.at.returns t c).After-pop in
-    record { text = last (without-next t d) c.put_clauses.ensures.text; path = c.put_clauses.ensures.path ∙ again t d }
+    record { text = last (without_next t d) c.put_clauses.ensures.text; path = c.put_clauses.ensures.path ∙ again t d }

@@ -1,57 +1,23 @@
--- The preferred candidate is listed and unbeaten, and a loop finds it.
-use Rattle.std.specs.Prelude.{◌≡◌, ℕ, zero, suc, ◌+◌, ◌<◌, ◌≤◌, Bool, false, cond, List, [], ◌∷◌, length, drop, slice_index_or, refl}
-use Rattle.std.proofs.Common.{sym, ap, subst, ◌∙◌, inl, inr, ⊎_elim, arith}
+-- The preferred candidate is unbeaten, and a loop finds it.
+use Rattle.std.specs.Prelude.{◌≡◌, ℕ, ◌+◌, ◌<◌, ◌≤◌, Bool, false, cond, List, [], ◌∷◌, length, drop, slice_index_or, refl}
+use Rattle.std.proofs.Common.{sym, subst, ◌∙◌, arith}
 use Rattle.std.specs.List.{AllByRecursion, best_of}
 use Rattle.std.specs.Cmp.{IsStrictWeakOrder}
-use Rattle.std.proofs.lemmas.List.MinMax.{IsStrictWeakOrder-by_number, IsFirstBest-from_best_of}
+use Rattle.std.proofs.lemmas.List.MinMax.{IsFirstBest-from_best_of}
 use Rattle.std.proofs.ByRecursion.{All-from_get_or, All-weaker}
 use Rattle.std.proofs.lemmas.List.{at_drop_more, at_drop_all}
 use Rattle.std.proofs.lemmas.Bool.{ltb-false}
 use Rattle.std.proofs.lemmas.Bool.Decides.{nat_tests}
-use Rattle.qbf.specs.Lists.{In}
-use Rattle.qbf.specs.Chooser.{Listed, Picks}
 use Rattle.qbf.specs.declared.Candidate.{Candidate}
-use Rattle.choosers.specs.Preferred.{preferred, lower, busier, first_picks, busiest_picks}
+use Rattle.choosers.specs.Preferred.{preferred, lower, busier}
 use Rattle.choosers.specs.Laws.{FirstLowest, BusiestLargest}
-
-in_get_d : (cs : List Candidate) (i : ℕ) (d : Candidate) → i < length cs → In (slice_index_or cs i d) cs
-in_get_d [] i d h = absurd (omega arith)
-in_get_d (c ∷ cs) zero d h = inl refl
-in_get_d (c ∷ cs) (suc i) d h = inr (in_get_d cs i d (omega arith))
-
-in_listed : (x : Candidate) (cs : List Candidate) → In x cs → Listed x.position cs
-in_listed x [] h = h
-in_listed x (c ∷ cs) h = ⊎_elim (λ (e : x ≡ c). inl (ap (λ p. p.position) e)) (λ (later : In x cs). inr (in_listed x cs later)) h
+use Rattle.choosers.specs.Listings.{best_in, lower_ranks, busier_ranks, first_listed}
 
 module _ (beats : Candidate → Candidate → Bool) (ranks : IsStrictWeakOrder beats) (c : Candidate) (cs : List Candidate) where
-  best_in : In (best_of beats c cs) (c ∷ cs)
-  best_in =
-      let b = IsFirstBest-from_best_of ranks c cs in
-      subst (λ x. In x (c ∷ cs)) b.2 (in_get_d (c ∷ cs) b.0 c b.1.0)
-
   best_unbeaten : AllByRecursion (λ d. beats d (best_of beats c cs) ≡ false) (c ∷ cs)
   best_unbeaten =
       let b = IsFirstBest-from_best_of ranks c cs in
       subst (λ x. AllByRecursion (λ d. beats d x ≡ false) (c ∷ cs)) b.2 (All-from_get_or _ (c ∷ cs) c (λ k h. b.1.1 k c h))
-
-preferred_listed : (beats : Candidate → Candidate → Bool) → IsStrictWeakOrder beats → Picks (preferred beats)
-preferred_listed beats ranks [] h = absurd (omega arith)
-preferred_listed beats ranks (c ∷ cs) h = in_listed _ (c ∷ cs) (best_in beats ranks c cs)
-
-lower_ranks : IsStrictWeakOrder lower
-lower_ranks = IsStrictWeakOrder-by_number (λ c. c.position)
-
-busier_ranks : IsStrictWeakOrder busier
-busier_ranks = record {
-  one_way = λ x y h. grind (arith, nat_tests);
-  chain = λ x y z h l. grind (arith, nat_tests);
-}
-
-pub first_listed : Picks first_picks
-first_listed = preferred_listed lower lower_ranks
-
-pub busiest_listed : Picks busiest_picks
-busiest_listed = preferred_listed busier busier_ranks
 
 pub first_lowest : FirstLowest
 first_lowest [] h = absurd (omega arith)
