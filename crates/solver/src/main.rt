@@ -1,4 +1,4 @@
-// The checker: reads a formula text from standard input and prints its verdict with V and C of its problem line, `s cnf R V C`,
+// Reads a formula text from standard input and prints its verdict with V and C of its problem line, `s cnf R V C`,
 // and the splits, `c splits N`; or only `c refused N at P` for a refusal.
 #![tactic(auto)]
 
