@@ -31,9 +31,7 @@ const LIMIT: usize = 60000;
 pub fn read(text: &[u8]) -> Result<Formula, ReadFault>
     ensures { Answers text.now (outcome result) }
 {
-    let mut formula = Formula::new();
-    read_into(text, &mut formula)?;
-    Ok(formula)
+    read_words(text)
 }
 
 // The same into a formula of the caller's that says nothing yet, so that none is copied.
@@ -42,11 +40,20 @@ pub fn read_into(text: &[u8], formula: &mut Formula) -> Result<(), ReadFault>
     requires { Blank formula.old }
     ensures { Answers text.now (filled result formula.new) }
 {
-    read_words(text, formula)
+    read_words_into(text, formula)
 }
 
 // Goes through the words one by one, up to the first that breaks a rule.
-fn read_words(text: &[u8], draft: &mut Formula) -> Result<(), ReadFault>
+fn read_words(text: &[u8]) -> Result<Formula, ReadFault>
+    ensures { read_all text.now ≡ outcome result }
+{
+    let mut draft = Formula::new();
+    read_words_into(text, &mut draft)?;
+    Ok(draft)
+}
+
+// The same, with what the words say in a draft of the caller's.
+fn read_words_into(text: &[u8], draft: &mut Formula) -> Result<(), ReadFault>
     requires { Blank draft.old }
     ensures { read_all text.now ≡ filled result draft.new }
 {

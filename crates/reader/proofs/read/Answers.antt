@@ -1,7 +1,7 @@
-use Rattle.std.proofs.lemmas.Result.{err_from_is_err_and}
+use Rattle.std.proofs.Common.{subst}
+use Rattle.grammar.specs.Theorems.{Answers}
+use Rattle.grammar.proofs.Whole.{reading_stands_lem}
 use Rattle.reader.proofs.read.Goals as goal
 
-pub returns-in_err-read_into : goal.returns-in_err-read_into
-returns-in_err-read_into c =
-    let p = err_from_is_err_and c.from_residual.result c.from_residual.ensures.1 in
-    rw (p.1, p.2) c.in_err-read_into.ensures
+pub returns : goal.returns
+returns c = subst (Answers c.args.text.now) c.read_words.ensures (reading_stands_lem c.args.text.now)

@@ -1,37 +1,7 @@
-use Rattle.std.proofs.Common.{length, sym, ap, ◌∙◌, subst, arith}
-use Rattle.words.specs.Words.{token, left}
-use Rattle.words.proofs.Places.{words_few}
-use Rattle.grammar.specs.declared.place.Place.TheVariants.{Problem}
-use Rattle.grammar.specs.Places.{Draft, empty}
-use Rattle.grammar.specs.Steps.{read_from}
-use Rattle.reader.specs.Sound.{Sound, kept}
-use Rattle.reader.specs.Views.{draft_of}
-use Rattle.reader.proofs.Lasting.{blank_empty, empty_sound, lasts_at, read_on}
+use Rattle.std.proofs.lemmas.Result.{err_from_is_err_and}
 use Rattle.reader.proofs.read_words.Goals as goal
 
-pub loop-word-init : goal.loop-word-init
-loop-word-init c =
-    let text = c.args.text.now in
-    let few = words_few text in
-    let same = ap length c.new-scanner.ensures in
-    let blank = blank_empty c.args.draft.now c.requires in
-    let none = ap kept blank in (
-      subst (Sound Problem) (sym blank) empty_sound,
-      omega arith,
-      ap (λ (d : Draft). read_from Problem d text (left c.new-scanner.result)) blank ∙ ap (read_from Problem empty text) c.new-scanner.ensures,
-    )
-
-pub loop-word-preserved : goal.loop-word-preserved
-loop-word-preserved c =
-    let place = c.loop-word.place in
-    let draft = draft_of c.loop-word.draft in
-    let next = draft_of c.on_word.new.draft in
-    let word = token c.in-Some.word in
-    let text = c.args.text.now in
-    let cut = c.in-Some.ensures.cases in
-    let lasts = lasts_at place draft word {e = next} c.loop-word.invariant.0 c.in-Ok.ensures in
-    let fewer = ap length cut in (
-      lasts.0,
-      omega (arith, lasts.1, c.loop-word.invariant.1),
-      read_on place draft word {e = next} text (left c.next.new.self) c.in-Ok.ensures ∙ ap (read_from place draft text) (sym cut) ∙ c.loop-word.invariant.2,
-    )
+pub returns-in_err-read_words_into : goal.returns-in_err-read_words_into
+returns-in_err-read_words_into c =
+    let p = err_from_is_err_and c.from_residual.result c.from_residual.ensures.1 in
+    rw (p.1, p.2) c.in_err-read_words_into.ensures

@@ -5,7 +5,7 @@ use Rattle.grammar.specs.Places.{empty}
 use Rattle.grammar.specs.Steps.{read_from}
 use Rattle.reader.specs.Sound.{Sound, kept}
 use Rattle.reader.specs.Views.{draft_of}
-use Rattle.reader.proofs.read_words.Given as goal
+use Rattle.reader.proofs.read_words_into.Given as goal
 
 -- what must last, room for the words that are left, and that what is left to read gives the whole text's answer
 abbrev pub invariant-loop-word : goal.invariant-loop-word
