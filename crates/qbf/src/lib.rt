@@ -21,13 +21,9 @@ pub struct Candidate {
     pub negative: u16,
 }
 
-// The literal of the same variable with the other sign, by its code.
+// The literal of the same variable with the other sign, by its code: the two codes differ in the lowest bit.
 pub fn opposite(literal: u16) -> u16
     ensures { result ≡ complement literal }
 {
-    if literal % 2 == 0 {
-        literal + 1
-    } else {
-        literal - 1
-    }
+    literal ^ 1
 }
