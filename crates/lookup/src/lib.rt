@@ -22,10 +22,5 @@ pub fn find<K, R: Keyed<K>>(records: &[R], key: &K) -> Option<usize>
         × HoldsAt (λ x. R.has x key.now) records.now i
         × AllWithin (λ x. R.has x key.now → ⊥) records.now 0 i) }
 {
-    for (i, record) in records.iter().enumerate() {
-        if record.is(key) {
-            return Some(i);
-        }
-    }
-    None
+    records.iter().position(|record| record.is(key))
 }
