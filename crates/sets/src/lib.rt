@@ -5,7 +5,7 @@
 ghost use Rattle.sets.specs.Formed.{FormedStands};
 ghost use Rattle.sets.specs.Laws.{UnionMembers, LackingMembers, HoldingMembers, OccursCounted, TakenOutMembers, AssignedMembers, FormsStay, OneForm, SidesMake, FewMade, ClauseMembers};
 
-pub fn members_stand() -> u8
+pub fn members_stand()
     ensures union { UnionMembers }
     ensures lacking { LackingMembers }
     ensures holding { HoldingMembers }
@@ -13,22 +13,16 @@ pub fn members_stand() -> u8
     ensures taken_out { TakenOutMembers }
     ensures assigned { AssignedMembers }
     ensures clause { ClauseMembers }
-{
-    0
-}
+{}
 
-pub fn forms_stand() -> u8
+pub fn forms_stand()
     ensures stay { FormsStay }
     ensures one { OneForm }
     ensures sides { SidesMake }
     ensures few { FewMade }
-{
-    0
-}
+{}
 
 // Clauses that are stored one after the other make the set of them, in its one form.
-pub fn formed_stands() -> u8
+pub fn formed_stands()
     ensures { FormedStands }
-{
-    0
-}
+{}
