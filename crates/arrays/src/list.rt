@@ -3,6 +3,7 @@ ghost use Rattle.std.specs.Prelude.{⊤, ◌≡◌, ◌≤◌, length};
 
 use std::alloc::AllocError;
 
+mod compare;
 mod work;
 
 // The places behind the first `len` hold what was there before, or the item that the list was made with.

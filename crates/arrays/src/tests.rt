@@ -21,6 +21,19 @@ fn list_takes_as_many_as_fit(rt: HostRuntime) {
 }
 
 #[test]
+fn lists_are_equal_by_their_items(rt: HostRuntime) {
+    let mut one: FixedList<u16, 4> = FixedList::new(0);
+    let mut other: FixedList<u16, 4> = FixedList::new(9);
+    one.extend_from_slice(&[5, 6]);
+    other.extend_from_slice(&[5, 6, 7]);
+    assert!(rt; one != other);
+    other.pop();
+    assert!(rt; one == other);
+    other.set(1, 7);
+    assert!(rt; one != other);
+}
+
+#[test]
 fn table_has_a_value_for_each_code(rt: HostRuntime) {
     let mut table = ByCode::new(false);
     assert!(rt; !table.get(0) && !table.get(511));
