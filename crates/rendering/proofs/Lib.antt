@@ -7,4 +7,3 @@ pub mod Stores
 pub mod Lengths
 pub mod Built
 pub mod Trips
-pub mod Onward
