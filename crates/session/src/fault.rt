@@ -1,10 +1,11 @@
 // Why a call is refused.
-ghost use Rattle.std.specs.Prelude.{◌≡◌};
-ghost use Rattle.session.specs.Told.{halt_number, fault_told};
+ghost use Rattle.std.specs.Prelude.{◌≡◌, Some};
+ghost use Rattle.session.specs.Told.{halt_number, fault_told, refused_line};
 ghost use Rattle.session.specs.declared.fault.Fault.TheVariants.{Unread, TooShort as Short, TableFull, Undecided};
 
 use decision::{Halt, Unfinished};
 use grammar::ReadFault;
+use std::fmt;
 use table::Full;
 use writer::TooShort;
 
@@ -50,6 +51,17 @@ impl Fault {
             Fault::Undecided(unfinished) => Some(unfinished.splits as usize),
             Fault::NoFormula | Fault::AllowanceTooLarge | Fault::TableFull => None,
         }
+    }
+}
+
+// Without a value it is printed with 0.
+impl fmt::Display for Fault {
+    ghost output = { λ fault. Some (refused_line (fault_told fault)) };
+
+    fn fmt<W: fmt::Write>(&self, f: &mut fmt::Formatter<W>) -> fmt::Result {
+        let number = self.number();
+        let value = self.value().unwrap_or(0);
+        write!(f, "refused {number} at {value}")
     }
 }
 
