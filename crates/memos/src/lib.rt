@@ -11,6 +11,8 @@ pub mod laws;
 mod pair;
 pub mod slotted;
 
+pub use pair::Pair;
+
 // A store of pairs of node number and verdict that may forget any of them. No call refuses.
 pub trait Memo {
     // the pairs that are held

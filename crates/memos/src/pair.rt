@@ -22,8 +22,5 @@ impl Keyed<u16> for Pair {
 pub fn verdict_among(pairs: &[Pair], number: u16) -> Option<bool>
     ensures { result ≡ verdict_among pairs.now number }
 {
-    match find(pairs, &number) {
-        Some(place) => Some(pairs[place].verdict),
-        None => None,
-    }
+    find(pairs, &number).map(|place| pairs[place].verdict)
 }

@@ -32,17 +32,14 @@ impl Memo for Slotted {
 
     // Only one slot can have the number's pair; it is looked up as among any lent pairs.
     fn recall(&self, number: u16) -> Option<bool> {
-        match self.slots[number as usize % SLOTS] {
-            Some(pair) => verdict_among(&[pair], number),
-            None => None,
-        }
+        self.slots[usize::from(number) % SLOTS].and_then(|pair| verdict_among(&[pair], number))
     }
 
     fn note(&mut self, number: u16, verdict: bool) {
-        self.slots[number as usize % SLOTS] = Some(Pair { number, verdict });
+        self.slots[usize::from(number) % SLOTS] = Some(Pair { number, verdict });
     }
 
     fn clear(&mut self) {
-        self.slots = [None; SLOTS];
+        *self = Slotted::new();
     }
 }

@@ -1,5 +1,7 @@
-use Rattle.memos.proofs.Noted.{kept_holding}
+use Rattle.arrays.specs.Lists.{items_of}
+use Rattle.arrays.proofs.Fits.{items_fit}
+use Rattle.memos.proofs.Counts.{row_holding}
 use Rattle.memos.proofs.laws.keeping_counts_stands.Goals as goal
 
 pub returns : goal.returns
-returns c s = (kept_holding s, s.fits)
+returns c s = (row_holding (items_of s.pairs) s.apart, items_fit s.pairs)
