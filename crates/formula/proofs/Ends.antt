@@ -1,6 +1,7 @@
 -- Clauses by where each ends.
-use Rattle.std.proofs.Common.{◌≡◌, ℕ, zero, suc, ◌-◌, ◌<◌, ◌≤◌, true, eqb, leb, List, [], ◌∷◌, ◌++◌, length, get_or, take, drop, sym, refl, ap, ◌∙◌, subst, arith}
-use Rattle.std.proofs.lemmas.List.{take-take, get_or-take}
+use Rattle.std.proofs.Common.{◌≡◌, ℕ, zero, suc, ◌+◌, ◌<◌, ◌≤◌, true, eqb, leb, List, [], ◌∷◌, ◌++◌, length, get_or, take, drop, sym, refl, ap, ◌∙◌, subst, arith}
+use Rattle.std.proofs.Math.Seq.{drop-append_seam}
+use Rattle.std.proofs.lemmas.List.{take-take, take_all, take-append-le, length-append}
 use Rattle.std.proofs.lemmas.Slice.{between_is}
 use Rattle.std.proofs.lemmas.Bool.{and_parts, and_from, leb-true, eqb-true, le-leb, eq-eqb}
 use Rattle.std.specs.List.{between}
@@ -66,14 +67,18 @@ clauses_same s (x ∷ es) top xs ys e p =
     let b = clauses_same x es top xs ys q p in
     cc
 
--- the ends that are in use, read one by one
-pub end_at : (n : ℕ) (es : List ℕ) (i : ℕ) → i < n → get_or es i 0 ≡ get_or (take n es) i 0
-end_at n es i h = sym (get_or-take n es i 0 h)
+-- so it may be cut off
+pub clauses_cut : (s : ℕ) (es : List ℕ) (top : ℕ) (xs : List ℕ) → climbs s es top ≡ true → clauses_from s es (take top xs) ≡ clauses_from s es xs
+clauses_cut s es top xs e = clauses_same s es top (take top xs) xs e (take-take top top xs (omega arith))
 
-pub begins_at : (n : ℕ) (es : List ℕ) (i : ℕ) → i < n → (i ≡ 0 → ⊥) → get_or es (i - 1) 0 ≡ beginning 0 (take n es) i
-begins_at n es zero h e = absurd (e refl)
-begins_at n es (suc i) h e = ap (λ (k : ℕ). get_or es k 0) (omega arith) ∙ end_at n es i (omega arith)
+-- or be more
+pub clauses_longer : (s : ℕ) (es : List ℕ) (top : ℕ) (xs ys : List ℕ) → climbs s es top ≡ true → top ≤ length xs → clauses_from s es (xs ++ ys) ≡ clauses_from s es xs
+clauses_longer s es top xs ys e h = clauses_same s es top (xs ++ ys) xs e (take-append-le top xs ys h)
 
-pub first_begins : (n : ℕ) (es : List ℕ) (i : ℕ) → i ≡ 0 → 0 ≡ beginning 0 (take n es) i
-first_begins n es zero e = refl
-first_begins n es (suc i) e = absurd (omega arith)
+-- a clause more, with its literals
+pub clauses_more : (s : ℕ) (es : List ℕ) (top x : ℕ) (xs codes : List ℕ) → climbs s es top ≡ true → top ≡ length xs → x ≡ top + length codes → clauses_from s (es ++ x ∷ []) (xs ++ codes) ≡ clauses_from s es xs ++ codes ∷ []
+clauses_more s es top x xs codes e h i =
+    let old = clauses_longer s es top xs codes e (omega arith) in
+    let whole : take x (xs ++ codes) ≡ xs ++ codes = take_all x (xs ++ codes) (omega (arith, length-append xs codes)) in
+    let new : between top x (xs ++ codes) ≡ codes = between_is (xs ++ codes) top x ∙ ap (drop top) whole ∙ ap (λ (k : ℕ). drop k (xs ++ codes)) h ∙ drop-append_seam xs codes in
+    clauses_push s es top x (xs ++ codes) e ∙ (cc)

@@ -1,3 +1,4 @@
+pub mod Begun
 pub mod Ends
 pub mod Positions
-pub mod Stored
+pub mod Same

@@ -1,22 +1,28 @@
 -- What the arrays of a formula stand for.
-use Rattle.std.specs.Prelude.{◌≡◌, ℕ, List, [], take, drop}
+use Rattle.std.specs.Prelude.{◌≡◌, ℕ, List, [], drop}
+use Rattle.arrays.specs.Lists.{items_of}
 use Rattle.formula.specs.declared.Formula.{Formula}
 use Rattle.formula.specs.declared.clauses.ClauseList.{ClauseList}
+use Rattle.formula.specs.declared.clauses.iter.Clauses.{Clauses}
 use Rattle.formula.specs.declared.prefix.Binding.{Binding}
 use Rattle.formula.specs.declared.prefix.Prefix.{Prefix}
 use Rattle.formula.specs.Ends.{clauses_from}
 
 -- the bindings, outermost first
 abbrev pub bindings_of : Prefix → List Binding
-bindings_of p = take p.len p.bindings
+bindings_of p = items_of p.bindings
 
 -- the clauses in the order in which they were stored, each a list of codes
 abbrev pub clauses_of : ClauseList → List (List ℕ)
-clauses_of c = clauses_from 0 (take c.len c.ends) c.literals
+clauses_of c = clauses_from 0 (items_of c.ends) (items_of c.literals)
 
 -- the literals of the clause that is begun, as they were written
 abbrev pub begun_of : ClauseList → List ℕ
-begun_of c = take c.begun (drop c.used c.literals)
+begun_of c = drop c.used (items_of c.literals)
+
+-- the clauses that an iterator has left
+abbrev pub clauses_left : Clauses → List (List ℕ)
+clauses_left c = drop c.place (clauses_of c.list.now)
 
 -- a formula as it is read: V and C of the problem line, the prefix, and the clauses that are stored
 pub record Reading : Type 0 where

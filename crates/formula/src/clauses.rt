@@ -1,22 +1,23 @@
 // The stored clauses, their literals one behind the other, and behind them those of a clause that is begun.
 mod begins;
+mod iter;
 mod reads;
 mod stores;
 
-ghost use Rattle.std.specs.Prelude.{◌≡◌, ◌+◌, ◌≤◌, true, length, take};
+ghost use Rattle.std.specs.Prelude.{◌≡◌, ◌≤◌, true, length};
+ghost use Rattle.arrays.specs.Lists.{items_of};
 ghost use Rattle.formula.specs.Ends.{climbs};
 
-// Clause i ends at ends[i], and begins where the one before it ends; `used` literals are stored in all.
-// The clause that is begun has the `begun` literals behind these.
+use arrays::FixedList;
+pub use iter::Clauses;
+
+// The first `used` literals are those of the stored clauses: each clause ends at its end, and begins where the one before it ends.
+// The literals behind them are those of the clause that is begun.
 #[derive(Clone, Copy)]
 pub struct ClauseList {
-    literals: [u16; 30000],
+    literals: FixedList<u16, 30000>,
+    ends: FixedList<u16, 2048>,
     used: usize,
-    begun: usize,
-    ends: [u16; 2048],
-    len: usize,
-    ghost long: { length literals ≡ 30000 },
-    ghost room: { used + begun ≤ 30000 },
-    ghost fits: { len ≤ 2048 },
-    ghost ordered: { climbs 0 (take len ends) used ≡ true },
+    ghost stored: { used ≤ length (items_of literals) },
+    ghost ordered: { climbs 0 (items_of ends) used ≡ true },
 }

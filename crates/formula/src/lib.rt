@@ -8,7 +8,11 @@ mod blank;
 mod clauses;
 mod prefix;
 
-pub use clauses::ClauseList;
+ghost use Rattle.std.specs.Prelude.{◌≡◌, Decides};
+ghost use Rattle.formula.specs.declared.prefix.Prefix.{Prefix};
+ghost use Rattle.formula.specs.Views.{bindings_of};
+
+pub use clauses::{ClauseList, Clauses};
 pub use prefix::{Binding, Prefix};
 
 // V and C are the numbers of the problem line; C counts every clause of the text, also those that are not stored,
@@ -21,3 +25,9 @@ pub struct Formula {
     pub prefix: Prefix,
     pub clauses: ClauseList,
 }
+
+// Two prefixes are equal by `==` exactly if they have the same bindings.
+#[tactic(auto, using(crate::proofs::Same::prefix_decides))]
+pub fn equality_stands()
+    ensures { (p q : Prefix) → Decides (⟦<Prefix as PartialEq>⟧.eq p q) (bindings_of p ≡ bindings_of q) }
+{}

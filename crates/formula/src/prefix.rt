@@ -1,9 +1,7 @@
 // The prefix: the bound variables with their quantifiers, outermost first.
-mod compare;
 mod work;
 
-ghost use Rattle.std.specs.Prelude.{◌≤◌};
-
+use arrays::FixedList;
 use qbf::Quantifier;
 
 #[derive(Clone, Copy, PartialEq, Eq, Debug)]
@@ -12,9 +10,8 @@ pub struct Binding {
     pub quantifier: Quantifier,
 }
 
-#[derive(Clone, Copy)]
+// Two prefixes are equal if they bind the same variables in the same order, with the same quantifiers.
+#[derive(Clone, Copy, PartialEq, Eq)]
 pub struct Prefix {
-    bindings: [Binding; 256],
-    len: usize,
-    ghost fits: { len ≤ 256 },
+    bindings: FixedList<Binding, 256>,
 }

@@ -9,24 +9,27 @@ impl ClauseList {
     pub fn begun(&self) -> &[u16]
         ensures { result.now ≡ begun_of self.now }
     {
-        &self.literals[self.used..self.used + self.begun]
+        &self.literals.as_slice()[self.used..]
     }
 
     // One literal more in the clause that is begun.
+    #[tactic(auto, using(crate::proofs::Ends::clauses_longer))]
     pub fn push_literal(&mut self, code: u16)
         requires { self.old.used + length (begun_of self.old) < 30000 }
         ensures clauses { clauses_of self.new ≡ clauses_of self.old }
+        ensures used { self.new.used ≡ self.old.used }
         ensures begun { begun_of self.new ≡ begun_of self.old ++ code ∷ [] }
     {
-        self.literals[self.used + self.begun] = code;
-        self.begun += 1;
+        self.literals.push(code);
     }
 
     // No clause is begun.
+    #[tactic(auto, using(crate::proofs::Ends::clauses_cut))]
     pub fn drop_begun(&mut self)
         ensures clauses { clauses_of self.new ≡ clauses_of self.old }
+        ensures used { self.new.used ≡ self.old.used }
         ensures begun { begun_of self.new ≡ [] }
     {
-        self.begun = 0;
+        self.literals.truncate(self.used);
     }
 }

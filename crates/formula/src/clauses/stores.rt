@@ -3,6 +3,7 @@ ghost use Rattle.std.specs.Prelude.{◌≡◌, ◌+◌, ◌<◌, ◌≤◌, [], 
 ghost use Rattle.formula.specs.Views.{clauses_of, begun_of};
 
 use crate::clauses::ClauseList;
+use arrays::FixedList;
 
 impl ClauseList {
     pub fn new() -> ClauseList
@@ -11,11 +12,9 @@ impl ClauseList {
         ensures begun { begun_of result ≡ [] }
     {
         ClauseList {
-            literals: [0; 30000],
+            literals: FixedList::new(0),
+            ends: FixedList::new(0),
             used: 0,
-            begun: 0,
-            ends: [0; 2048],
-            len: 0,
         }
     }
 
@@ -27,12 +26,10 @@ impl ClauseList {
         ensures used { self.new.used ≡ self.old.used + length codes.now }
         ensures begun { begun_of self.new ≡ [] }
     {
-        let start = self.used;
-        let end = start + codes.len();
-        self.literals[start..end].copy_from_slice(codes);
-        self.ends[self.len] = end as u16;
-        self.used = end;
-        self.begun = 0;
-        self.len += 1;
+        self.drop_begun();
+        self.literals.extend_from_slice(codes);
+        self.used += codes.len();
+        // No more than 30,000, so the cast is exact; `try_from` would answer an error that cannot come.
+        self.ends.push(self.used as u16);
     }
 }

@@ -4,6 +4,7 @@ ghost use Rattle.formula.specs.Views.{bindings_of};
 ghost use Rattle.formula.specs.Positions.{position};
 
 use crate::prefix::{Binding, Prefix};
+use arrays::FixedList;
 use qbf::Quantifier;
 
 impl Prefix {
@@ -15,8 +16,7 @@ impl Prefix {
             quantifier: Quantifier::Existential,
         };
         Prefix {
-            bindings: [unused; 256],
-            len: 0,
+            bindings: FixedList::new(unused),
         }
     }
 
@@ -25,32 +25,21 @@ impl Prefix {
         requires { length (bindings_of self.old) < 256 }
         ensures { bindings_of self.new ≡ bindings_of self.old ++ binding ∷ [] }
     {
-        self.bindings[self.len] = binding;
-        self.len += 1;
+        self.bindings.push(binding);
     }
 
     pub fn bindings(&self) -> &[Binding]
         ensures { result.now ≡ bindings_of self.now }
     {
-        &self.bindings[0..self.len]
+        self.bindings.as_slice()
     }
 
     // Where a variable is bound, counted from 0.
     pub fn position(&self, variable: u16) -> Option<usize>
         ensures { result ≡ position variable (bindings_of self.now) }
     {
-        position_in(self.bindings(), variable)
+        self.bindings()
+            .iter()
+            .position(|binding| binding.variable == variable)
     }
-}
-
-// The place of a variable's first binding.
-fn position_in(bindings: &[Binding], variable: u16) -> Option<usize>
-    ensures { result ≡ position variable bindings.now }
-{
-    for (place, binding) in bindings.iter().enumerate() {
-        if binding.variable == variable {
-            return Some(place);
-        }
-    }
-    None
 }

@@ -1,12 +1,15 @@
-use Rattle.std.proofs.Common.{◌≡◌, Decides, ap, arith}
+-- When two prefixes are equal.
+use Rattle.std.proofs.Common.{◌≡◌, Decides, refl, ap, arith}
 use Rattle.std.proofs.lemmas.Bool.Decides.{nat_tests}
 use Rattle.std.proofs.lemmas.Slice.Eq.{slice_eq-Decides}
 use Rattle.qbf.specs.declared.Quantifier.{Quantifier}
 use Rattle.qbf.specs.declared.Quantifier.TheVariants.{Existential, Universal}
 use Rattle.qbf.specs.contracts.QuantifierPartialEq.TheImpl as by_variant
 use Rattle.formula.specs.declared.prefix.Binding.{Binding}
+use Rattle.formula.specs.declared.prefix.Prefix.{Prefix}
 use Rattle.formula.specs.contracts.prefix.BindingPartialEq.TheImpl as by_fields
-use Rattle.formula.proofs.prefix.compare.same_bindings.Goals as goal
+use Rattle.formula.specs.contracts.prefix.PrefixPartialEq.TheImpl as by_bindings
+use Rattle.formula.specs.Views.{bindings_of}
 
 quantifier_decides : (p q : Quantifier) → Decides ((by_variant.ghosts).eq p q) (p ≡ q)
 quantifier_decides Existential Existential = grind (arith, nat_tests)
@@ -21,5 +24,6 @@ binding_decides a b =
       λ e. let v : a.variable ≡ b.variable = ap (λ (x : Binding). x.variable) e in let k = ap (λ (x : Binding). x.quantifier) e in grind (arith, nat_tests),
     )
 
-pub returns : goal.returns
-returns c = slice_eq-Decides binding_decides _ _ _ c.eq.ensures
+-- `==` on prefixes compares their bindings
+pub prefix_decides : (p q : Prefix) → Decides ((by_bindings.ghosts).eq p q) (bindings_of p ≡ bindings_of q)
+prefix_decides p q = slice_eq-Decides binding_decides (bindings_of p) (bindings_of q) _ refl
