@@ -1,8 +1,8 @@
 -- The bytes of a number or a literal, one on.
 use Rattle.std.proofs.Common.{◌≡◌, ℕ, ◌+◌, ◌-◌, ◌*◌, ◌<◌, ◌≤◌, Bool, true, ◌&&◌, eqb, leb, List, [], ◌∷◌, length, get_or, drop, sym, refl, ◌∙◌, subst, arith}
 use Rattle.std.proofs.lemmas.List.{at_drop_more}
-use Rattle.std.proofs.lemmas.Bool.{cond-true, cond-false, eq-eqb, ne_eqb, and_parts, leb-true}
-use Rattle.words.specs.Numbers.{digit, all_digits, value_from, read_number, read_literal, unsigned, negated}
+use Rattle.std.proofs.lemmas.Bool.{cond-false, ne_eqb, and_parts, leb-true}
+use Rattle.words.specs.Numbers.{digit, all_digits, value_from, read_number, read_literal, unsigned}
 
 pub digit_step : (xs : List ℕ) (i : ℕ) (t : Bool) → i < length xs → digit (get_or xs i 0) ≡ t → all_digits (drop i xs) ≡ (t && all_digits (drop (i + 1) xs))
 digit_step xs i t h e =
@@ -18,9 +18,14 @@ digits_on xs i h e =
 pub value_step : (n : ℕ) (xs : List ℕ) (i : ℕ) → i < length xs → value_from n (drop i xs) ≡ value_from (n * 10 + (get_or xs i 0 - 48)) (drop (i + 1) xs)
 value_step n xs i h = at_drop_more (value_from n) xs i 0 h
 
-pub minus_is : (max : ℕ) (xs : List ℕ) → 0 < length xs → get_or xs 0 0 ≡ 45 → read_literal max xs ≡ negated (read_number max (drop 1 xs))
-minus_is max [] h e = absurd (omega arith)
-minus_is max (b ∷ bs) h e = cond-true (eqb b 45) _ _ (eq-eqb b 45 e)
+-- further digits make no number less
+value_least : (n : ℕ) (ds : List ℕ) → n ≤ value_from n ds
+value_least n [] = omega arith
+value_least n (d ∷ ds) = let h = value_least (n * 10 + (d - 48)) ds in omega arith
+
+-- the digits up to one of them spell no more than all digits
+pub value_so_far : (n : ℕ) (ds : List ℕ) (i v : ℕ) → i < length ds → value_from n (drop i ds) ≡ v → n * 10 + (get_or ds i 0 - 48) ≤ v
+value_so_far n ds i v h e = let l = value_least (n * 10 + (get_or ds i 0 - 48)) (drop (i + 1) ds) in let s = value_step n ds i h in omega arith
 
 pub plain_is : (max : ℕ) (xs : List ℕ) → 0 < length xs → (get_or xs 0 0 ≡ 45 → ⊥) → read_literal max xs ≡ unsigned (read_number max xs)
 plain_is max [] h e = absurd (omega arith)

@@ -1,6 +1,8 @@
+pub mod Bytes
 pub mod Steps
 pub mod Digits
 pub mod Decimal
 pub mod Splits
 pub mod Openings
 pub mod Places
+pub mod Next

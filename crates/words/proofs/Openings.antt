@@ -1,15 +1,16 @@
 -- The scan of a whole text gives the words as they are declared, and no others.
-use Rattle.std.proofs.Common.{◌≡◌, ℕ, ◌+◌, Bool, true, false, eqb, List, [], ◌∷◌, ◌++◌, length, Some, None, Option, sym, refl, ap, ◌∙◌, subst, add-zero, arith}
-use Rattle.std.proofs.lemmas.Bool.{eqb-true, eqb-false}
+use Rattle.std.proofs.Common.{◌≡◌, ℕ, ◌+◌, true, List, [], ◌∷◌, ◌++◌, length, Some, None, Option, sym, refl, ap, ◌∙◌, subst, add-zero, arith}
 use Rattle.std.proofs.lemmas.Bool.Decides.{nat_tests}
 use Rattle.std.specs.List.{AllByRecursion}
-use Rattle.words.specs.declared.scanner.Kind.TheVariants.{Space, Ink}
+use Rattle.words.specs.Words.Kind.{Space, Ink}
 use Rattle.words.specs.declared.scanner.Line.{Line}
 use Rattle.words.specs.declared.scanner.Line.TheVariants.{Start, Blank, Comment}
 use Rattle.words.specs.Words.{kind, onward, begin, Token, scan}
 use Rattle.words.specs.Words.Mode.{ahead, gap as gapped}
 use Rattle.words.specs.Split.{Words}
 use Rattle.words.specs.Split.Words.{comment, last_comment, blank, last_blank, body}
+use Rattle.words.proofs.Bytes.{Byte, byte}
+use Rattle.words.proofs.Bytes.Byte.{at_line_end, at_space, at_c, at_other}
 use Rattle.words.proofs.Splits.{at_kind, exist, unique}
 
 -- a line of spaces so far
@@ -114,31 +115,15 @@ found_remarked : {bs : List ℕ} → Remarked bs → Found (99 ∷ bs)
 found_remarked (open_ended {line} h) off = subst (Words off (99 ∷ line)) (sym (comment_ends (off + 1) line h)) (last_comment h)
 found_remarked (ended line rest h later) off = subst (Words off (99 ∷ line ++ 10 ∷ rest)) (sym (past_comment (off + 1) line rest h)) (comment line rest h (later (off + 1 + length line + 1)))
 
--- what a byte at the start of a line can be
-data Byte : ℕ → Type 0 where
-  line_end : Byte 10
-  space : Byte 32
-  letter_c : Byte 99
-  other : {b : ℕ} → kind b ≡ Ink → (b ≡ 10 → ⊥) → (b ≡ 99 → ⊥) → Byte b
-
-byte : (b : ℕ) → Byte b
-byte b = by (eqb b 10) (eqb b 32) (eqb b 99) refl refl refl
-  where
-    by : (l s c : Bool) → eqb b 10 ≡ l → eqb b 32 ≡ s → eqb b 99 ≡ c → Byte b
-    by true s c el es ec = subst Byte (sym (eqb-true b 10 el)) line_end
-    by false true c el es ec = subst Byte (sym (eqb-true b 32 es)) space
-    by false false true el es ec = subst Byte (sym (eqb-true b 99 ec)) letter_c
-    by false false false el es ec = other (grind (arith, nat_tests)) (eqb-false b 10 el) (eqb-false b 99 ec)
-
 found : (bs : List ℕ) → Found bs × Spaced bs × Remarked bs
 found [] = (λ off. last_blank tt, bare tt, open_ended tt)
 found (b ∷ bs) = on (byte b) (found bs)
   where
     on : {b : ℕ} → Byte b → Found bs × Spaced bs × Remarked bs → Found (b ∷ bs) × Spaced (b ∷ bs) × Remarked (b ∷ bs)
-    on line_end ih = (found_blank [] bs tt ih.0, ended [] bs tt ih.0, ended [] bs tt ih.0)
-    on space ih = (found_spaced ih.1, more_spaces ih.1, more_remark 32 (λ e. omega arith) ih.2)
-    on letter_c ih = (found_remarked ih.2, inked [] 99 bs tt refl, more_remark 99 (λ e. omega arith) ih.2)
-    on (other {b} ink l c) ih = (found_body [] b bs tt ink (λ _. c), inked [] b bs tt ink, more_remark b l ih.2)
+    on at_line_end ih = (found_blank [] bs tt ih.0, ended [] bs tt ih.0, ended [] bs tt ih.0)
+    on at_space ih = (found_spaced ih.1, more_spaces ih.1, more_remark 32 (λ e. omega arith) ih.2)
+    on at_c ih = (found_remarked ih.2, inked [] 99 bs tt refl, more_remark 99 (λ e. omega arith) ih.2)
+    on (at_other {b} ink l c) ih = (found_body [] b bs tt ink (λ _. c), inked [] b bs tt ink, more_remark b l ih.2)
 
 pub are : (text : List ℕ) → Words 0 text (scan (ahead Start) 0 text)
 are text = (found text).0 0

@@ -2,7 +2,7 @@
 use Rattle.std.proofs.Common.{◌≡◌, ℕ, ◌+◌, ◌*◌, ◌<◌, ◌≤◌, Bool, List, [], ◌∷◌, ◌++◌, length, take, drop, sym, refl, ap, ◌∙◌, append_assoc, arith, length-append}
 use Rattle.std.proofs.lemmas.List.{take_at, drop_at}
 use Rattle.std.specs.List.{AllByRecursion}
-use Rattle.words.specs.declared.scanner.Kind.TheVariants.{Ink}
+use Rattle.words.specs.Words.Kind.{Ink}
 use Rattle.words.specs.Words.{kind, Token, words_of}
 use Rattle.words.specs.Split.{Cut, Runs, Words, Rising, WordsStand}
 use Rattle.words.specs.Split.Runs.{done, line_end, space, word}

@@ -1,8 +1,8 @@
 -- Where no comment stands, the scan gives the words as they are declared, and no others.
 use Rattle.std.proofs.Common.{◌≡◌, ℕ, ◌+◌, ◌<◌, Bool, true, false, List, [], ◌∷◌, ◌++◌, length, sym, refl, ap, ◌∙◌, subst, append_assoc, append-nil, add-zero, arith}
 use Rattle.std.specs.List.{AllByRecursion}
-use Rattle.words.specs.declared.scanner.Kind.{Kind}
-use Rattle.words.specs.declared.scanner.Kind.TheVariants.{Space, LineEnd, Ink}
+use Rattle.words.specs.Words.{Kind}
+use Rattle.words.specs.Words.Kind.{Space, LineEnd, Ink}
 use Rattle.words.specs.Words.{kind, Token, Mode, scan, step, emit}
 use Rattle.words.specs.Words.Mode.{gap as gapped, run as running}
 use Rattle.words.specs.Split.{Cut, Runs}

@@ -1,15 +1,12 @@
 -- One byte on in a scan.
-use Rattle.std.proofs.Common.{◌≡◌, ℕ, ◌+◌, ◌<◌, ◌≤◌, Bool, true, false, List, [], ◌∷◌, ◌++◌, length, get_or, drop, None, Option, sym, refl, ap, ◌∙◌, subst, ⊎_elim, arith}
+use Rattle.std.proofs.Common.{◌≡◌, ℕ, ◌+◌, ◌<◌, ◌≤◌, true, List, ◌++◌, length, get_or, drop, None, Option, sym, ap, ◌∙◌, subst, arith}
 use Rattle.std.proofs.lemmas.List.{at_drop_more, at_drop_all}
-use Rattle.std.proofs.lemmas.Bool.{cases_lt}
 use Rattle.std.proofs.lemmas.Bool.Decides.{nat_tests}
-use Rattle.std.specs.List.{between}
-use Rattle.words.specs.declared.scanner.Kind.{Kind}
-use Rattle.words.specs.declared.scanner.Kind.TheVariants.{Space, LineEnd, Ink}
+use Rattle.words.specs.Words.Kind.{Ink}
 use Rattle.words.specs.declared.scanner.Line.{Line}
 use Rattle.words.specs.declared.scanner.Line.TheVariants.{Start, Blank, Comment}
-use Rattle.words.specs.Words.{kind, onward, begin, Token, Mode, scan, step, emit, close}
-use Rattle.words.specs.Words.Mode.{ahead, gap, run}
+use Rattle.words.specs.Words.{kind, onward, begin, Kind, Mode, scan, step, emit, close}
+use Rattle.words.specs.Words.Mode.{ahead, gap}
 
 pub stepped : (m : Mode) (off : ℕ) (xs : List ℕ) (i : ℕ) (k : Kind) → i < length xs → kind (get_or xs i 0) ≡ k → scan m off (drop i xs) ≡ emit m k ++ scan (step m k off (get_or xs i 0)) (off + 1) (drop (i + 1) xs)
 stepped m off xs i k h e =
@@ -17,24 +14,6 @@ stepped m off xs i k h e =
 
 pub past : (m : Mode) (off : ℕ) (xs : List ℕ) (i : ℕ) → length xs ≤ i → scan m off (drop i xs) ≡ close m
 past m off xs i h = at_drop_all (scan m off) xs i h
-
-enter : (f : Bool) (xs : List ℕ) (i : ℕ) → i < length xs → kind (get_or xs i 0) ≡ Ink → scan (gap f) i (drop i xs) ≡ scan (run i [] f) i (drop i xs)
-enter f xs i h e = stepped (gap f) i xs i Ink h e ∙ sym (stepped (run i [] f) i xs i Ink h e)
-
-leave : (a : ℕ) (bs : List ℕ) (f : Bool) (xs : List ℕ) (i : ℕ) → (i < length xs → kind (get_or xs i 0) ≡ Ink → ⊥) → scan (run a bs f) i (drop i xs) ≡ record { at = a; bytes = bs; first = f } ∷ scan (gap false) i (drop i xs)
-leave a bs f xs i stops =
-    ⊎_elim
-    (λ h. on h (kind (get_or xs i 0)) refl)
-    (λ h. past (run a bs f) i xs i h ∙ ap (λ (l : List Token). record { at = a; bytes = bs; first = f } ∷ l) (sym (past (gap false) i xs i h)))
-    (cases_lt i (length xs))
-  where
-    on : i < length xs → (k : Kind) → kind (get_or xs i 0) ≡ k → scan (run a bs f) i (drop i xs) ≡ record { at = a; bytes = bs; first = f } ∷ scan (gap false) i (drop i xs)
-    on h Ink e = absurd (stops h e)
-    on h Space e = stepped (run a bs f) i xs i Space h e ∙ ap (λ (l : List Token). record { at = a; bytes = bs; first = f } ∷ l) (sym (stepped (gap false) i xs i Space h e))
-    on h LineEnd e = stepped (run a bs f) i xs i LineEnd h e ∙ ap (λ (l : List Token). record { at = a; bytes = bs; first = f } ∷ l) (sym (stepped (gap false) i xs i LineEnd h e))
-
-pub one_word : (xs : List ℕ) (f : Bool) (i j : ℕ) → i < length xs → kind (get_or xs i 0) ≡ Ink → scan (run i [] f) i (drop i xs) ≡ scan (run i (between i j xs) f) j (drop j xs) → (j < length xs → kind (get_or xs j 0) ≡ Ink → ⊥) → scan (gap f) i (drop i xs) ≡ record { at = i; bytes = between i j xs; first = f } ∷ scan (gap false) j (drop j xs)
-one_word xs f i j h ink along stops = enter f xs i h ink ∙ along ∙ leave i (between i j xs) f xs j stops
 
 pub line_step : (l : Line) (xs : List ℕ) (i : ℕ) (o : Option Line) → i < length xs → onward l (get_or xs i 0) ≡ o → scan (ahead l) i (drop i xs) ≡ scan (begin o i (get_or xs i 0)) (i + 1) (drop (i + 1) xs)
 line_step l xs i o h e = at_drop_more (scan (ahead l) i) xs i 0 h ∙ ap (λ (u : Option Line). scan (begin u i (get_or xs i 0)) (i + 1) (drop (i + 1) xs)) e

@@ -1,5 +1,6 @@
 -- The numbers and literals that words spell.
 use Rattle.std.specs.Prelude.{◌≡◌, ℕ, ◌+◌, ◌-◌, ◌*◌, ◌<◌, ◌≤◌, Bool, true, false, cond, not, ◌&&◌, ◌||◌, List, [], ◌∷◌, length, Some, None, Ok, Err, decimal, Option, Result, ◌==◌, nat_le, nat_lt}
+use Rattle.std.specs.List.{list_all}
 use Rattle.words.specs.declared.literals.Literal.{Literal}
 use Rattle.words.specs.declared.numbers.NumberFault.{NumberFault}
 use Rattle.words.specs.declared.numbers.NumberFault.TheVariants.{NotANumber, OutOfRange}
@@ -10,8 +11,7 @@ digit b = nat_le 48 b && nat_le b 57
 
 -- digits alone
 abbrev pub all_digits : List ℕ → Bool
-all_digits [] = true
-all_digits (b ∷ bs) = digit b && all_digits bs
+all_digits bs = list_all digit bs
 
 -- one or more digits, the first of several not 0
 abbrev pub numeral : List ℕ → Bool

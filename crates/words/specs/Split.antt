@@ -1,7 +1,7 @@
 -- The words of a text, declared.
 use Rattle.std.specs.Prelude.{◌≡◌, ℕ, ◌+◌, ◌<◌, ◌≤◌, Bool, true, false, List, [], ◌∷◌, ◌++◌, length, take, drop, ◌≢◌}
 use Rattle.std.specs.List.{AllByRecursion}
-use Rattle.words.specs.declared.scanner.Kind.TheVariants.{Space, LineEnd, Ink}
+use Rattle.words.specs.Words.Kind.{Space, LineEnd, Ink}
 use Rattle.words.specs.Words.{kind, Token, words_of}
 
 -- a text that does not go on with a byte of a word

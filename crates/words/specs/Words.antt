@@ -1,15 +1,23 @@
 -- The words of a text, each with its offset, its bytes and whether it is the first of its line, computed byte by byte.
-use Rattle.std.specs.Prelude.{ℕ, ◌+◌, Bool, true, false, cond, List, [], ◌∷◌, ◌++◌, drop, Some, None, Option, ◌==◌}
-use Rattle.words.specs.declared.scanner.Kind.{Kind}
-use Rattle.words.specs.declared.scanner.Kind.TheVariants.{Space, LineEnd, Ink}
+use Rattle.std.specs.Prelude.{◌≡◌, ℕ, ◌+◌, Bool, true, false, cond, not, ◌||◌, List, [], ◌∷◌, ◌++◌, drop, Some, None, Option, IfNone, MatchOption, ◌==◌}
 use Rattle.words.specs.declared.scanner.Line.{Line}
 use Rattle.words.specs.declared.scanner.Line.TheVariants.{Start, Blank, Comment}
 use Rattle.words.specs.declared.scanner.Word.{Word}
 use Rattle.words.specs.declared.scanner.Scanner.{Scanner}
 
+-- what a byte is to the words of a text
+pub data Kind : Type 0 where
+  Space : Kind
+  LineEnd : Kind
+  Ink : Kind
+
 -- only byte 32, the space, and byte 10, the line end, divide words
 abbrev pub kind : ℕ → Kind
 kind b = cond (b == 10) LineEnd (cond (b == 32) Space Ink)
+
+-- a byte of a word
+abbrev pub ink : ℕ → Bool
+ink b = not (b == 32 || b == 10)
 
 -- a word of a text: the offset of its first byte, its bytes, and whether it is the first word of its line
 pub record Token : Type 0 where
@@ -75,3 +83,9 @@ left s = scan (gap s.fresh) s.pos (drop s.pos s.text.now)
 -- the words of a text
 abbrev pub words_of : List ℕ → List Token
 words_of text = scan (ahead Start) 0 text
+
+-- a call of `next` gave the first of the words that were left, or none where none was left, and then none is; the text stays
+pub record GivesWord (s : Scanner) (r : Option Word) (t : Scanner) : Type 0 where
+  pub cases : MatchOption r (left s ≡ []) (λ w. left s ≡ token w ∷ left t)
+  pub ended : IfNone r (left t ≡ [])
+  pub same : t.text.now ≡ s.text.now

@@ -13,19 +13,15 @@ ghost use Rattle.words.specs.Split.{WordsStand};
 ghost use Rattle.words.specs.Numbers.{NumbersStand};
 
 pub use literals::Literal;
-pub use numbers::{NumberFault, is_numeral, literal, number};
+pub use numbers::{NumberFault, is_numeral, literal, number, value_within};
 pub use scanner::{Scanner, Word};
 
 // The words that a scanner gives are those of the text as they are declared, and the only ones.
-pub fn words_stand() -> u8
+pub fn words_stand()
     ensures { WordsStand }
-{
-    0
-}
+{}
 
 // What is read as a number or a literal is what is written as one.
-pub fn numbers_stand() -> u8
+pub fn numbers_stand()
     ensures { NumbersStand }
-{
-    0
-}
+{}

@@ -1,5 +1,5 @@
 // Words read as numbers and as the literals of clauses.
-ghost use Rattle.std.specs.Prelude.{◌≡◌, ◌+◌, ◌-◌, ◌<◌, ◌≤◌, true, length, IfSome, IfOk};
+ghost use Rattle.std.specs.Prelude.{◌≡◌, ◌<◌, ◌≤◌, true, IfSome, IfOk, MatchOption};
 ghost use Rattle.words.specs.Numbers.{all_digits, numeral, value_of, read_number, read_literal};
 
 use crate::literals::Literal;
@@ -14,38 +14,29 @@ pub enum NumberFault {
 fn all_digits(bytes: &[u8]) -> bool
     ensures { result ≡ all_digits bytes.now }
 {
-    for b in bytes {
-        if !b.is_ascii_digit() {
-            return false;
-        }
-    }
-    true
+    bytes.iter().all(|b| b.is_ascii_digit())
 }
 
 // Whether a word is a number in decimal, without needless zeros, however large.
 pub fn is_numeral(bytes: &[u8]) -> bool
     ensures { result ≡ numeral bytes.now }
 {
-    if bytes.is_empty() {
-        return false;
+    match bytes {
+        [] | [b'0', _, ..] => false,
+        _ => all_digits(bytes),
     }
-    if bytes.len() > 1 && bytes[0] == b'0' {
-        return false;
-    }
-    all_digits(bytes)
 }
 
-// The value of at most four digits.
-fn value(bytes: &[u8]) -> u16
-    requires few { length bytes.now ≤ 4 }
-    requires digits { all_digits bytes.now ≡ true }
-    ensures { result ≡ value_of bytes.now }
+// The value of the digits, if it is at most `max`.
+pub fn value_within(digits: &[u8], max: usize) -> Option<usize>
+    requires { all_digits digits.now ≡ true }
+    ensures { MatchOption result (max < value_of digits.now) (λ n. (n ≤ max) × (n ≡ value_of digits.now)) }
 {
-    let mut n: u16 = 0;
-    for b in bytes {
-        n = n * 10 + u16::from(*b - b'0');
+    let mut n: usize = 0;
+    for b in digits {
+        n = n.checked_mul(10)?.checked_add(usize::from(*b - b'0'))?;
     }
-    n
+    (n <= max).then_some(n)
 }
 
 // The number that a word spells, if it is at most `max`.
@@ -59,11 +50,8 @@ pub fn number(bytes: &[u8], max: u16) -> Result<u16, NumberFault>
     if bytes.len() > 4 {
         return Err(NumberFault::OutOfRange);
     }
-    let n = value(bytes);
-    if n > max {
-        return Err(NumberFault::OutOfRange);
-    }
-    Ok(n)
+    let n = value_within(bytes, usize::from(max)).ok_or(NumberFault::OutOfRange)?;
+    Ok(n as u16)
 }
 
 // The literal that a word spells, if its variable is at most `max`; none if the word is 0, which ends a clause.
@@ -71,29 +59,23 @@ pub fn literal(bytes: &[u8], max: u16) -> Result<Option<Literal>, NumberFault>
     ensures value { result ≡ read_literal max bytes.now }
     ensures bound { IfOk result (λ o. IfSome o (λ l. (0 < l.variable) × (l.variable ≤ max))) }
 {
-    if bytes.is_empty() {
+    let [first, rest @ ..] = bytes else {
         return Err(NumberFault::NotANumber);
-    }
-    match char::from(bytes[0]) {
-        '-' => {
-            let variable = number(&bytes[1..], max)?;
-            if variable == 0 {
-                return Err(NumberFault::NotANumber);
-            }
-            Ok(Some(Literal {
+    };
+    match char::from(*first) {
+        '-' => match number(rest, max)? {
+            0 => Err(NumberFault::NotANumber),
+            variable => Ok(Some(Literal {
                 variable,
                 negative: true,
-            }))
-        }
-        _ => {
-            let variable = number(bytes, max)?;
-            if variable == 0 {
-                return Ok(None);
-            }
-            Ok(Some(Literal {
+            })),
+        },
+        _ => match number(bytes, max)? {
+            0 => Ok(None),
+            variable => Ok(Some(Literal {
                 variable,
                 negative: false,
-            }))
-        }
+            })),
+        },
     }
 }

@@ -20,14 +20,6 @@ pub struct Scanner<'a> {
     ghost within: { pos ≤ length text.now },
 }
 
-// What a byte is to the words of a text.
-#[derive(Clone, Copy)]
-enum Kind {
-    Space,
-    LineEnd,
-    Ink,
-}
-
 // What a line ahead of the first word is so far.
 #[derive(Clone, Copy)]
 enum Line {

@@ -1,19 +1,16 @@
 // The words of a text, one by one.
-ghost use Rattle.std.specs.Prelude.{◌≡◌, ◌+◌, ◌-◌, ◌<◌, ◌≤◌, Bool, [], ◌∷◌, length, drop, IfNone, MatchOption, ◌≢◌, slice_index};
-ghost use Rattle.std.specs.List.{between};
-ghost use Rattle.words.specs.Words.{kind, onward, scan, token, left, words_of};
-ghost use Rattle.words.specs.Words.Mode.{gap, run};
+ghost use Rattle.std.specs.Prelude.{◌≡◌, position};
+ghost use Rattle.std.specs.List.{prefix_len};
+ghost use Rattle.std.specs.Iterator.{item_count};
+ghost use Rattle.words.specs.Words.{ink, onward, left, words_of, GivesWord};
 
-use super::{Kind, Line, Scanner, Word};
+use super::{Line, Scanner, Word};
 
-fn kind_of(b: u8) -> Kind
-    ensures { result ≡ kind b }
+// Whether a byte belongs to a word.
+fn is_ink(b: u8) -> bool
+    ensures { result ≡ ink b }
 {
-    match char::from(b) {
-        '\n' => Kind::LineEnd,
-        ' ' => Kind::Space,
-        _ => Kind::Ink,
-    }
+    b != b' ' && b != b'\n'
 }
 
 // What a byte makes of a line ahead of the first word; none if the word begins there.
@@ -28,43 +25,18 @@ fn line_on(line: Line, b: u8) -> Option<Line>
     }
 }
 
-// Past the spaces and line ends from `pos` on: where it stops, and whether no word stands before that on its line.
-fn skip(text: &[u8], pos: usize, fresh: bool) -> (usize, bool)
-    requires { pos ≤ length text.now }
-    ensures within { result.0 ≤ length text.now }
-    ensures same { scan (gap result.1) result.0 (drop result.0 text.now) ≡ scan (gap fresh) pos (drop pos text.now) }
-    ensures stops { result.0 < length text.now → kind (slice_index text.now result.0) ≡ Kind.Ink }
+// How many bytes stand ahead of the next word; none if no word is left.
+fn gap_len(bytes: &[u8]) -> Option<usize>
+    ensures { result ≡ position ink bytes.now }
 {
-    let mut i = pos;
-    let mut first = fresh;
-    while i < text.len() {
-        match kind_of(text[i]) {
-            Kind::LineEnd => first = true,
-            Kind::Space => {}
-            Kind::Ink => return (i, first),
-        }
-        i += 1;
-    }
-    (i, first)
+    bytes.iter().position(|b| is_ink(*b))
 }
 
-// Where the word that goes on at `at` ends.
-fn run_end(text: &[u8], at: usize) -> usize
-    requires { at ≤ length text.now }
-    ensures within { result ≤ length text.now }
-    ensures beyond { at ≤ result }
-    ensures same { (f : Bool) → scan (run at [] f) at (drop at text.now) ≡ scan (run at (between at result text.now) f) result (drop result text.now) }
-    ensures stops { result < length text.now → kind (slice_index text.now result) ≢ Kind.Ink }
+// How many bytes the word at the front has.
+fn word_len(bytes: &[u8]) -> usize
+    ensures { result ≡ prefix_len ink bytes.now }
 {
-    let mut i = at;
-    while i < text.len() {
-        match kind_of(text[i]) {
-            Kind::Ink => {}
-            _ => return i,
-        }
-        i += 1;
-    }
-    i
+    bytes.iter().take_while(|b| is_ink(**b)).count()
 }
 
 impl<'a> Scanner<'a> {
@@ -91,25 +63,25 @@ impl<'a> Scanner<'a> {
             fresh: true,
         }
     }
+}
+
+impl<'a> Iterator for Scanner<'a> {
+    type Item = Word<'a>;
+
+    ghost next_gives = { GivesWord };
+
+    ghost remaining = { item_count left };
 
     // The next word, if any is left.
-    pub fn next(&mut self) -> Option<Word<'a>>
-        ensures cases { MatchOption result (left self.old ≡ []) (λ w. left self.old ≡ token w ∷ left self.new) }
-        ensures ended { IfNone result (left self.new ≡ []) }
-        ensures same { self.new.text.now ≡ self.old.text.now }
-    {
-        let text = self.text;
-        let (at, first) = skip(text, self.pos, self.fresh);
-        let end = run_end(text, at);
-        self.pos = end;
+    fn next(&mut self) -> Option<Word<'a>> {
+        let rest = &self.text[self.pos..];
+        let gap = gap_len(rest)?;
+        let (skipped, word) = rest.split_at(gap);
+        let at = self.pos + gap;
+        let bytes = &word[..word_len(word)];
+        let first = self.fresh || skipped.contains(&b'\n');
+        self.pos = at + bytes.len();
         self.fresh = false;
-        if at == text.len() {
-            return None;
-        }
-        Some(Word {
-            at,
-            bytes: &text[at..end],
-            first,
-        })
+        Some(Word { at, bytes, first })
     }
 }

@@ -1,6 +1,0 @@
-use Rattle.std.proofs.Common.{◌≡◌, ◌^◌, ◌<◌, true, drop}
-use Rattle.words.specs.Numbers.{all_digits, value_from}
-use Rattle.words.proofs.numbers.value.Given as goal
-
-abbrev pub invariant-loop-b : goal.invariant-loop-b
-invariant-loop-b l = (value_from l.n (drop l.b-index l.bytes) ≡ value_from 0 l.bytes) × (all_digits (drop l.b-index l.bytes) ≡ true) × (l.n < 10 ^ l.b-index)
