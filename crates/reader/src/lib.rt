@@ -64,8 +64,7 @@ fn read_words_into(text: &[u8], draft: &mut Formula) -> Result<(), ReadFault>
         });
     }
     let mut place = Place::Problem;
-    let mut scanner = Scanner::new(text);
-    while let Some(word) = scanner.next() {
+    for word in Scanner::new(text) {
         match on_word(place, word, draft) {
             Ok(next) => place = next,
             Err(rule) => return Err(ReadFault { rule, at: word.at }),

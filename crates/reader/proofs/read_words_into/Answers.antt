@@ -13,12 +13,15 @@ pub loop-word-init : goal.loop-word-init
 loop-word-init c =
     let text = c.args.text.now in
     let few = words_few text in
-    let same = ap length c.new-scanner.ensures in
+    let words = ap left c.into_iter-word-iterator.ensures.into_iter_gives ∙ c.new-word-items.ensures in
+    let same = ap length words in
     let blank = blank_empty c.args.draft.now c.requires in
     let none = ap kept blank in (
+      tt,
+      tt,
       subst (Sound Problem) (sym blank) empty_sound,
       omega arith,
-      ap (λ (d : Draft). read_from Problem d text (left c.new-scanner.result)) blank ∙ ap (read_from Problem empty text) c.new-scanner.ensures,
+      ap (λ (d : Draft). read_from Problem d text (left c.into_iter-word-iterator.result)) blank ∙ ap (read_from Problem empty text) words,
     )
 
 pub loop-word-preserved : goal.loop-word-preserved
@@ -28,10 +31,12 @@ loop-word-preserved c =
     let next = draft_of c.on_word.new.draft in
     let word = token c.in-Some.word in
     let text = c.args.text.now in
-    let cut = c.in-Some.ensures.cases in
-    let lasts = lasts_at place draft word {e = next} c.loop-word.invariant.0 c.in-Ok.ensures in
+    let cut = c.in-Some.ensures.steps.cases in
+    let lasts = lasts_at place draft word {e = next} c.loop-word.invariant.2 c.in-Ok.ensures in
     let fewer = ap length cut in (
+      tt,
+      tt,
       lasts.0,
-      omega (arith, lasts.1, c.loop-word.invariant.1),
-      read_on place draft word {e = next} text (left c.next.new.self) c.in-Ok.ensures ∙ ap (read_from place draft text) (sym cut) ∙ c.loop-word.invariant.2,
+      omega (arith, lasts.1, c.loop-word.invariant.3),
+      read_on place draft word {e = next} text (left c.next.new.self) c.in-Ok.ensures ∙ ap (read_from place draft text) (sym cut) ∙ c.loop-word.invariant.4,
     )
