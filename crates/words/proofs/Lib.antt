@@ -1,5 +1,4 @@
 pub mod Bytes
-pub mod Steps
 pub mod Digits
 pub mod Decimal
 pub mod Splits
