@@ -1,37 +1,31 @@
 // What is wrong with a text that is refused, and where.
-ghost use Rattle.std.specs.Prelude.{◌≡◌};
-ghost use Rattle.grammar.specs.Rules.{number_of};
+ghost use Rattle.std.specs.Prelude.{◌≡◌, Some};
+ghost use Rattle.grammar.specs.Rules.{number_of, refusal};
 
-// The rules that a text can break.
+use std::fmt;
+
+// The rules that a text can break, each with its fixed number.
 #[derive(Clone, Copy, PartialEq, Eq, Debug)]
 pub enum Rule {
     // more than 60,000 bytes
-    TooLong,
+    TooLong = 1,
     // a word that may not stand there, or an end with the problem line missing or a line or clause unfinished
-    Misplaced,
+    Misplaced = 2,
     // a number out of range
-    OutOfRange,
+    OutOfRange = 3,
     // a variable bound twice
-    BoundTwice,
+    BoundTwice = 4,
     // a literal whose variable is not bound
-    Unbound,
+    Unbound = 5,
     // a clause after as many as were declared, or an end with fewer
-    ClauseCount,
+    ClauseCount = 6,
 }
 
 impl Rule {
-    // The rule's fixed number.
     pub fn number(self) -> u8
         ensures { result ≡ number_of self }
     {
-        match self {
-            Rule::TooLong => 1,
-            Rule::Misplaced => 2,
-            Rule::OutOfRange => 3,
-            Rule::BoundTwice => 4,
-            Rule::Unbound => 5,
-            Rule::ClauseCount => 6,
-        }
+        self as u8
     }
 }
 
@@ -40,4 +34,14 @@ impl Rule {
 pub struct ReadFault {
     pub rule: Rule,
     pub at: usize,
+}
+
+impl fmt::Display for ReadFault {
+    ghost output = { λ fault. Some (refusal fault) };
+
+    fn fmt<W: fmt::Write>(&self, f: &mut fmt::Formatter<W>) -> fmt::Result {
+        let number = self.rule.number();
+        let at = self.at;
+        write!(f, "refused {number} at {at}")
+    }
 }
