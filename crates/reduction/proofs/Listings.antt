@@ -1,6 +1,8 @@
 -- The candidates, gathered along the prefix.
 use Rattle.std.proofs.Common.{◌≡◌, ℕ, zero, suc, ◌+◌, ◌<◌, ◌≤◌, Bool, true, false, cond, List, [], ◌∷◌, ◌++◌, map, length, get_or, drop, Some, None, sym, refl, ap, ◌∙◌, subst, append_assoc, append-nil, arith, length-append}
-use Rattle.std.proofs.lemmas.List.{at_drop_more, at_drop_all, length-map}
+use Rattle.std.proofs.lemmas.List.{at_drop_more, at_drop_all, length-map, length-drop, get_or-drop, get_or_default}
+use Rattle.std.proofs.lemmas.List.FromFn.{length-enumerate_from, get_or-enumerate_from}
+use Rattle.std.specs.List.{enumerate_from}
 use Rattle.qbf.specs.declared.Quantifier.{Quantifier}
 use Rattle.qbf.specs.declared.Quantifier.TheVariants.{Existential}
 use Rattle.qbf.specs.declared.Candidate.{Candidate}
@@ -59,6 +61,18 @@ module _ (s : List (List ℕ)) (bs : List Binding) (q : Quantifier) (i : ℕ) wh
 
   rest_all : length bs ≤ i → Rest s bs q i ≡ []
   rest_all h = at_drop_all (λ (rest : List Binding). map (candidate s) (neighbours q (quantified rest) i s)) bs i h
+
+-- what a look over the bindings from a place on, with their places, comes to after k of them
+pub at_place : (bs : List Binding) (first k : ℕ) (x : ℕ × Binding) →
+    (k < length (drop first (enumerate_from 0 bs))) × (x ≡ get_or (drop first (enumerate_from 0 bs)) k x) → (first + k < length bs) × (x.0 ≡ first + k) × (x.1.quantifier ≡ bound_at bs (first + k))
+at_place bs first k x h =
+    let low : first + k < length bs = let a = length-drop first (enumerate_from 0 bs) in let b = length-enumerate_from 0 bs in omega (arith, h.0) in
+    let e = h.1 ∙ get_or-drop first (enumerate_from 0 bs) k x ∙ get_or-enumerate_from 0 bs (first + k) x low in
+    let place = ap (λ (y : ℕ × Binding). y.0) e in
+    (low, omega (arith, place), ap (λ (y : ℕ × Binding). y.1.quantifier) e ∙ ap (λ (b : Binding). b.quantifier) (get_or_default bs (first + k) _ _ low))
+
+pub after_places : (bs : List Binding) (first k : ℕ) → k ≡ length (drop first (enumerate_from 0 bs)) → length bs ≤ first + k
+after_places bs first k h = let a = length-drop first (enumerate_from 0 bs) in let b = length-enumerate_from 0 bs in omega arith
 
 -- those before the place i are gathered
 pub record Gathered (counts : List ℕ) (bs : List Binding) (first i : ℕ) (found : Candidates) : Type 0 where

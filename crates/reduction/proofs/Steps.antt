@@ -1,5 +1,5 @@
 -- The step of a set by the tests of its five lines.
-use Rattle.std.proofs.Common.{◌≡◌, ℕ, ◌*◌, ◌/◌, ◌<◌, ◌≤◌, Bool, true, false, cond, ◌&&◌, ltb, List, [], ◌∷◌, length, get_or, Some, None, Decides, Option, sym, refl, ap, ◌∙◌, inl, inr, arith}
+use Rattle.std.proofs.Common.{◌≡◌, ℕ, ◌*◌, ◌/◌, ◌<◌, ◌≤◌, Bool, true, false, cond, ◌&&◌, ltb, List, [], ◌∷◌, length, get_or, Some, None, is_some, Decides, Option, sym, refl, ap, ◌∙◌, inl, inr, arith}
 use Rattle.std.proofs.lemmas.Bool.Decides.{nat_tests}
 use Rattle.std.proofs.lemmas.List.{length-map}
 use Rattle.std.proofs.lemmas.Bool.{cases_Bool}
@@ -17,7 +17,7 @@ use Rattle.survey.specs.Surveyed.{Counted, UnitsOf}
 use Rattle.theory.proofs.Lines.{occurs_counted}
 use Rattle.theory.proofs.Reducing.{empty_from, unit_from, lowest_below}
 use Rattle.reduction.specs.Numbered.{quantified}
-use Rattle.reduction.specs.Tests.{unit_by, lone_by}
+use Rattle.reduction.specs.Tests.{unit_by, lone_by, bound_at}
 use Rattle.reduction.proofs.Scans.{lowest_same, binds_is}
 
 empty_to : (s : List (List ℕ)) → In [] s → has_empty s ≡ true
@@ -63,11 +63,12 @@ module _ (prefix : List Quantifier) (s : List (List ℕ)) where
 
   -- by what was found of each literal
   module _ (codes : ℕ) (all : codes ≡ 2 * length prefix) (small : codes ≤ 512) where
-    unit_found : (units : List Bool) → UnitsOf s units → (q : Quantifier) (a : Option ℕ) → a ≡ lowest (unit_by units q prefix) codes 0 → lowest_of q ≡ a
-    unit_found units told q a e =
+    unit_found : (bs : List Binding) → prefix ≡ quantified bs → codes ≡ 2 * length bs → (units : List Bool) → UnitsOf s units → (q : Quantifier) (a : Option ℕ) → a ≡ lowest (unit_by units q bs) codes 0 → lowest_of q ≡ a
+    unit_found bs is long units told q a e =
         ap (λ (k : ℕ). lowest (λ l. has_unit l s && binds q prefix (l / 2)) k 0) (sym all) ∙ lowest_same _ _ codes 0 (λ l h.
         let u : has_unit l s ≡ get_or units l false = decided_same (In (l ∷ []) s) (has_unit l s) (get_or units l false) (told l (omega arith)) (unit_to l s) (unit_from l s) in
-        ap (λ (b : Bool). b && binds q prefix (l / 2)) u) ∙ sym e
+        let b : binds q prefix (l / 2) ≡ same q (bound_at bs (l / 2)) = ap (λ (p : List Quantifier). binds q p (l / 2)) is ∙ binds_is q bs (l / 2) _ (omega arith) in
+        cc) ∙ sym e
 
     lone_found : (counts : List ℕ) → Counted s counts → (a : Option ℕ) → a ≡ lowest (lone_by counts) codes 0 → lowest_lone_of ≡ a
     lone_found counts told a e =
@@ -75,6 +76,11 @@ module _ (prefix : List Quantifier) (s : List (List ℕ)) where
         let a = occurs_is s counts told l (omega arith) in
         let b = occurs_is s counts told (complement l) (omega arith) in
         grind (arith, nat_tests)) ∙ sym e
+
+-- where none was found
+pub not_some : (a : Option ℕ) {b : Option ℕ} → is_some a ≡ false → a ≡ b → None ≡ b
+not_some None none e = e
+not_some (Some l) no_way e = cc
 
 -- line by line, for the set of a number
 
@@ -101,24 +107,25 @@ module _ (t : Table) (n : ℕ) (bs : List Binding) (r : Bool) (told : Decides r 
     codes : 2 * length bs ≡ 2 * length prefix
     codes = ap (λ (k : ℕ). 2 * k) (sym (length-map bs (λ b. b.quantifier)))
 
-    unit_at : (q : Quantifier) (a : Option ℕ) → a ≡ lowest (unit_by units q prefix) (2 * length bs) 0 → lowest_of prefix s q ≡ a
-    unit_at = unit_found prefix s (2 * length bs) codes (omega arith) units marked
+    unit_at : (q : Quantifier) (a : Option ℕ) → a ≡ lowest (unit_by units q bs) (2 * length bs) 0 → lowest_of prefix s q ≡ a
+    unit_at = unit_found prefix s (2 * length bs) codes (omega arith) bs refl refl units marked
 
-    pub line_universal : (l : ℕ) → Some l ≡ lowest (unit_by units Universal prefix) (2 * length bs) 0 → settled false ≡ step prefix s
-    line_universal l e = sym (step_is prefix s false false (Some l) _ _ no_empty filled (unit_at Universal (Some l) e) refl refl)
+    pub line_universal : (a : Option ℕ) → is_some a ≡ true → a ≡ lowest (unit_by units Universal bs) (2 * length bs) 0 → settled false ≡ step prefix s
+    line_universal (Some l) some e = sym (step_is prefix s false false (Some l) _ _ no_empty filled (unit_at Universal (Some l) e) refl refl)
+    line_universal None no_way e = cc
 
-    module _ (no_universal : None ≡ lowest (unit_by units Universal prefix) (2 * length bs) 0) where
-      pub line_unit : (l : ℕ) → Some l ≡ lowest (unit_by units Existential prefix) (2 * length bs) 0 → forced l ≡ step prefix s
+    module _ (no_universal : None ≡ lowest (unit_by units Universal bs) (2 * length bs) 0) where
+      pub line_unit : (l : ℕ) → Some l ≡ lowest (unit_by units Existential bs) (2 * length bs) 0 → forced l ≡ step prefix s
       line_unit l e = sym (step_is prefix s false false None (Some l) _ no_empty filled (unit_at Universal None no_universal) (unit_at Existential (Some l) e) refl)
 
-      module _ (no_existential : None ≡ lowest (unit_by units Existential prefix) (2 * length bs) 0) (counts : List ℕ) (counted : Counted s counts) where
+      module _ (no_existential : None ≡ lowest (unit_by units Existential bs) (2 * length bs) 0) (counts : List ℕ) (counted : Counted s counts) where
         at_lone : (a : Option ℕ) → a ≡ lowest (lone_by counts) (2 * length bs) 0 → step prefix s ≡ by_tests prefix s false false None None a
         at_lone a e = step_is prefix s false false None None a no_empty filled (unit_at Universal None no_universal) (unit_at Existential None no_existential) (lone_found prefix s (2 * length bs) codes (omega arith) counts counted a e)
 
-        pub line_lone : (l : ℕ) → Some l ≡ lowest (lone_by counts) (2 * length bs) 0 → (d : Binding) (m : ℕ) → m ≡ cond (same Existential (get_or bs (l / 2) d).quantifier) l (complement l) → forced m ≡ step prefix s
-        line_lone l e d m is =
+        pub line_lone : (l : ℕ) → Some l ≡ lowest (lone_by counts) (2 * length bs) 0 → (q : Quantifier) → q ≡ bound_at bs (l / 2) → (m : ℕ) → m ≡ cond (same Existential q) l (complement l) → forced m ≡ step prefix s
+        line_lone l e q at m is =
             let h = lowest_below (lone_by counts) (2 * length bs) 0 l (sym e) in
-            ap forced (is ∙ ap (λ (b : Bool). cond b l (complement l)) (sym (binds_is Existential bs (l / 2) d (omega arith)))) ∙ sym (at_lone (Some l) e)
+            ap forced (is ∙ ap (λ (b : Bool). cond b l (complement l)) (ap (same Existential) at ∙ sym (binds_is Existential bs (l / 2) _ (omega arith)))) ∙ sym (at_lone (Some l) e)
 
         pub line_stuck : None ≡ lowest (lone_by counts) (2 * length bs) 0 → stuck ≡ step prefix s
         line_stuck e = sym (at_lone None e)

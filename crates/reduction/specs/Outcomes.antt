@@ -1,5 +1,6 @@
 -- The answers of the code in the terms of the definitions.
-use Rattle.std.specs.Prelude.{◌≡◌, ℕ, ◌<◌, ◌≤◌, List, length, take, Some, None, Ok, Err, Option, Result}
+use Rattle.std.specs.Prelude.{◌≡◌, ℕ, ◌<◌, ◌≤◌, List, length, Some, None, Ok, Err, Option, Result}
+use Rattle.arrays.specs.Lists.{items_of}
 use Rattle.qbf.specs.declared.Quantifier.{Quantifier}
 use Rattle.qbf.specs.declared.Candidate.{Candidate}
 use Rattle.qbf.specs.Clauses.{assigned, setting}
@@ -58,4 +59,4 @@ StaysReady before n after (Err e) = Unit {0}
 
 -- the candidates that were found, in prefix order
 abbrev pub candidates_of : Candidates → List Candidate
-candidates_of c = take c.len c.at
+candidates_of c = items_of c.list

@@ -37,12 +37,7 @@ fn first_occurring(counts: &Counts, variables: usize) -> Option<usize>
     requires { variables ≤ 256 }
     ensures { result ≡ lowest (λ x. occurring (candidate_by counts.now.at x)) variables 0 }
 {
-    for place in 0..variables {
-        if occurs(candidate_at(counts, place)) {
-            return Some(place);
-        }
-    }
-    None
+    (0..variables).find(|place| occurs(candidate_at(counts, *place)))
 }
 
 // The variables from a place on that are neighbours with its quantifier, as far as they occur.
@@ -53,13 +48,13 @@ fn block_from(counts: &Counts, bindings: &[Binding], first: usize) -> Candidates
 {
     let quantifier = bindings[first].quantifier;
     let mut found = Candidates::none(quantifier);
-    for place in first..bindings.len() {
-        if bindings[place].quantifier != quantifier {
+    for (place, binding) in bindings.iter().enumerate().skip(first) {
+        if binding.quantifier != quantifier {
             return found;
         }
         let candidate = candidate_at(counts, place);
         if occurs(candidate) {
-            found.push(candidate);
+            found.list.push(candidate);
         }
     }
     found

@@ -16,8 +16,6 @@ pub use candidates::Candidates;
 pub use reducing::{Reduced, reduce};
 pub use setting::set_true;
 
-pub fn numbers_stand() -> u8
+pub fn numbers_stand()
     ensures { NumbersStand }
-{
-    0
-}
+{}

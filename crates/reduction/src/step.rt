@@ -1,12 +1,12 @@
 // The first line of reducing that fits a set.
-ghost use Rattle.std.specs.Prelude.{◌≡◌, ◌*◌, ◌≤◌, length, if◌then◌else◌};
+ghost use Rattle.std.specs.Prelude.{◌≡◌, ◌*◌, ◌/◌, ◌<◌, ◌≤◌, length, if◌then◌else◌};
 ghost use Rattle.qbf.specs.Literals.{complement};
 ghost use Rattle.qbf.specs.Reduce.{same, lowest, step};
 ghost use Rattle.qbf.specs.declared.Quantifier.TheVariants.{Existential};
 ghost use Rattle.table.specs.Tables.{clauses};
 ghost use Rattle.reduction.specs.Numbered.{quantified, quantifiers_of, Ready};
 ghost use Rattle.reduction.specs.Outcomes.{step_of};
-ghost use Rattle.reduction.specs.Tests.{unit_by, lone_by};
+ghost use Rattle.reduction.specs.Tests.{unit_by, lone_by, bound_at};
 
 use formula::{Binding, Prefix};
 use qbf::{Quantifier, opposite};
@@ -21,17 +21,22 @@ pub(crate) enum Step {
     Stuck,
 }
 
+// Who chooses the literal's variable.
+fn quantifier_of(bindings: &[Binding], literal: u16) -> Quantifier
+    requires { literal < 2 * length bindings.now }
+    ensures { result ≡ bound_at bindings.now (literal / 2) }
+{
+    bindings[usize::from(literal) / 2].quantifier
+}
+
 // The lowest literal that is a clause of its own and whose variable has the quantifier.
 fn lowest_unit(units: &Units, bindings: &[Binding], quantifier: Quantifier) -> Option<u16>
     requires { length bindings.now ≤ 256 }
-    ensures { result ≡ lowest (unit_by units.now.at quantifier (quantified bindings.now)) (2 * length bindings.now) 0 }
+    ensures { result ≡ lowest (unit_by units.now.at quantifier bindings.now) (2 * length bindings.now) 0 }
 {
-    for literal in 0..2 * bindings.len() {
-        if units.at[literal] && bindings[literal / 2].quantifier == quantifier {
-            return Some(literal as u16);
-        }
-    }
-    None
+    (0..2 * bindings.len() as u16).find(|literal| {
+        units.at[usize::from(*literal)] && quantifier_of(bindings, *literal) == quantifier
+    })
 }
 
 // The lowest literal below `end` that occurs while its complement does not.
@@ -39,12 +44,9 @@ fn lowest_lone(counts: &Counts, end: u16) -> Option<u16>
     requires { end ≤ 512 }
     ensures { result ≡ lowest (lone_by counts.now.at) end 0 }
 {
-    for literal in 0..end {
-        if counts.at[literal as usize] > 0 && counts.at[opposite(literal) as usize] == 0 {
-            return Some(literal);
-        }
-    }
-    None
+    (0..end).find(|literal| {
+        counts.at[usize::from(*literal)] > 0 && counts.at[usize::from(opposite(*literal))] == 0
+    })
 }
 
 // What to set true of a variable that occurs by this literal alone: the literal for an existential one, its complement for a universal one.
@@ -70,7 +72,7 @@ fn fitting_line(table: &Table, bindings: &[Binding], number: u16) -> Step
         return Step::Settled(true);
     }
     let units = find_units(table, number);
-    if let Some(_) = lowest_unit(&units, bindings, Quantifier::Universal) {
+    if lowest_unit(&units, bindings, Quantifier::Universal).is_some() {
         return Step::Settled(false);
     }
     if let Some(literal) = lowest_unit(&units, bindings, Quantifier::Existential) {
@@ -78,7 +80,7 @@ fn fitting_line(table: &Table, bindings: &[Binding], number: u16) -> Step
     }
     let counts = count_literals(table, number);
     match lowest_lone(&counts, 2 * bindings.len() as u16) {
-        Some(literal) => Step::Forced(favoured(literal, bindings[literal as usize / 2].quantifier)),
+        Some(literal) => Step::Forced(favoured(literal, quantifier_of(bindings, literal))),
         None => Step::Stuck,
     }
 }
