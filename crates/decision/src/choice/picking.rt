@@ -18,9 +18,9 @@ pub fn choose<C: Chooser>(table: &Table, chooser: &C, prefix: &Prefix, number: u
     ensures { Chosen (quantifiers_of prefix.now) (C.picks chooser.now) (clauses table.now number) result }
 {
     let candidates = find_candidates(table, prefix, number);
-    let position = chooser.choose(candidates.list());
+    let position = chooser.choose(candidates.list.as_slice());
     Choice {
         variable: position - 1,
-        quantifier: candidates.quantifier(),
+        quantifier: candidates.quantifier,
     }
 }

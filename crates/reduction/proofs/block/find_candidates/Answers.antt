@@ -3,9 +3,6 @@ use Rattle.reduction.proofs.Bindings.{few_lent, listed_lent}
 use Rattle.reduction.proofs.Listings.{first_within, found_none, found_block}
 use Rattle.reduction.proofs.block.find_candidates.Goals as goal
 
-pub first_occurring-requires : goal.first_occurring-requires
-first_occurring-requires c = few_lent c.args.prefix.now _ c.bindings-bindings.ensures
-
 pub block_from-requires : goal.block_from-requires
 block_from-requires c =
     let s = clauses c.args.table.now c.args.number in

@@ -5,13 +5,13 @@ use Rattle.decision.proofs.choice.picking.choose.Goals as goal
 
 pub overflow_sub-result : goal.overflow_sub-result
 overflow_sub-result g c =
-    let shown = c.list.ensures ∙ c.find_candidates-candidates.ensures.list in
-    let some : 0 < length c.list.result.now = rw shown c.requires.shown in
+    let shown = c.as_slice.ensures ∙ c.find_candidates-candidates.ensures.list in
+    let some : 0 < length c.as_slice.result.now = rw shown c.requires.shown in
     (position_within (g.C.Chooser.picks c.args.chooser.now) (g.met.C.Chooser.listed c.args.chooser.now) c.args.prefix.now (clauses c.args.table.now c.args.number) _ _ shown some c.choose-position.ensures).0
 
 pub invariant_of-result : goal.invariant_of-result
 invariant_of-result g c =
-    let shown = c.list.ensures ∙ c.find_candidates-candidates.ensures.list in
-    let some : 0 < length c.list.result.now = rw shown c.requires.shown in
+    let shown = c.as_slice.ensures ∙ c.find_candidates-candidates.ensures.list in
+    let some : 0 < length c.as_slice.result.now = rw shown c.requires.shown in
     let within = position_within (g.C.Chooser.picks c.args.chooser.now) (g.met.C.Chooser.listed c.args.chooser.now) c.args.prefix.now (clauses c.args.table.now c.args.number) _ _ shown some c.choose-position.ensures in
     record { bound = within.1 }
