@@ -1,11 +1,11 @@
 // The chooser of the variable that occurs in most clauses, counted for each sign, and of the lowest position among equals.
 ghost use Rattle.std.specs.Prelude.{◌≡◌, ◌+◌};
-ghost use Rattle.choosers.specs.Preferred.{load, busier, busiest_picks};
+ghost use Rattle.choosers.specs.Preferred.{load, busiest_picks};
 ghost use Rattle.choosers.specs.Listings.{busiest_listed};
 
 use crate::Chooser;
-use crate::preference::{Preference, preferred_position};
 use qbf::Candidate;
+use std::cmp::Reverse;
 
 #[derive(Clone, Copy)]
 pub struct Busiest;
@@ -14,17 +14,7 @@ pub struct Busiest;
 fn load_of(candidate: &Candidate) -> u32
     ensures { result ≡ load candidate.now }
 {
-    candidate.positive as u32 + candidate.negative as u32
-}
-
-impl Preference for Busiest {
-    ghost beats = { λ _. busier };
-
-    fn prefers(&self, one: &Candidate, other: &Candidate) -> bool {
-        let load = load_of(one);
-        let rival = load_of(other);
-        rival < load || (rival == load && one.position < other.position)
-    }
+    u32::from(candidate.positive) + u32::from(candidate.negative)
 }
 
 impl Chooser for Busiest {
@@ -33,6 +23,9 @@ impl Chooser for Busiest {
     ghost listed = { λ s. busiest_listed };
 
     fn choose(&self, candidates: &[Candidate]) -> u16 {
-        preferred_position(self, candidates)
+        let busiest = candidates
+            .iter()
+            .max_by_key(|one| (load_of(one), Reverse(one.position)));
+        busiest.unwrap().position
     }
 }

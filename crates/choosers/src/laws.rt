@@ -2,15 +2,11 @@
 ghost use Rattle.choosers.specs.Laws.{FirstLowest, BusiestLargest};
 
 // First picks the lowest position.
-pub fn first_lowest_stands() -> u8
+pub fn first_lowest_stands()
     ensures { FirstLowest }
-{
-    0
-}
+{}
 
 // Busiest picks the largest sum of the two counts, and the lowest position among equals.
-pub fn busiest_largest_stands() -> u8
+pub fn busiest_largest_stands()
     ensures { BusiestLargest }
-{
-    0
-}
+{}

@@ -11,7 +11,6 @@ use qbf::Candidate;
 pub mod busiest;
 pub mod first;
 pub mod laws;
-mod preference;
 
 // Picks one of the candidates that it is shown, in prefix order. It refuses none, and stays as it is.
 pub trait Chooser {
