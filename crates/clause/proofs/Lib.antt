@@ -1,6 +1,5 @@
+pub mod Codes
 pub mod Members
 pub mod Sets
-pub mod Codes
 mod Marked
-mod Places
 mod Progress

@@ -1,5 +1,5 @@
 -- Marks that agree with a list of codes.
-use Rattle.std.proofs.Common.{◌≡◌, ℕ, ◌<◌, Bool, true, false, List, [], ◌∷◌, ◌++◌, length, get_or, set, replicate, sym, ap, ◌∙◌, subst, inl, ⊎_elim, arith}
+use Rattle.std.proofs.Common.{◌≡◌, ℕ, ◌<◌, Bool, true, false, List, [], ◌∷◌, ◌++◌, length, get_or, set, replicate, sym, ap, ◌∙◌, inl, ⊎_elim, arith}
 use Rattle.std.proofs.lemmas.List.{length-replicate}
 use Rattle.std.proofs.lemmas.List.{get_or-set_same, get_or-set_other, get_or-replicate, get_or_past}
 use Rattle.std.proofs.lemmas.Bool.{cases_eq, cases_lt}
@@ -30,6 +30,3 @@ marked_new m m' xs x l h e marked k =
     (λ f. ap (λ (q : ℕ). get_or (set m x true) q false) f ∙ get_or-set_same m x true false (omega arith) ∙ sym (in_mem k (xs ++ x ∷ []) (in_right k xs (x ∷ []) (inl f))))
     (λ n. get_or-set_other m x k true false n ∙ marked k ∙ mem_kept k xs x (λ f. absurd (n f)))
     (cases_eq k x)
-
-pub marked_old : (m : List Bool) (xs : List ℕ) (x : ℕ) → In x xs → Marked m xs → Marked m (xs ++ x ∷ [])
-marked_old m xs x i marked k = marked k ∙ mem_kept k xs x (λ f. subst (λ (q : ℕ). In q xs) (sym f) i)

@@ -1,5 +1,5 @@
 -- Membership, removal and distinctness in lists of codes.
-use Rattle.std.proofs.Common.{◌≡◌, ℕ, zero, suc, ◌<◌, ◌≤◌, true, false, eqb, ◌⊎◌, List, [], ◌∷◌, ◌++◌, length, get_or, Decides, sym, refl, ap, ◌∙◌, subst, inl, inr, ⊎_elim, arith}
+use Rattle.std.proofs.Common.{◌≡◌, ℕ, zero, suc, ◌<◌, ◌≤◌, true, false, eqb, ◌⊎◌, List, [], ◌∷◌, ◌++◌, length, Decides, sym, refl, ap, ◌∙◌, subst, inl, inr, ⊎_elim, arith}
 use Rattle.std.specs.List.{AllByRecursion}
 use Rattle.std.proofs.lemmas.Bool.{both_ways, cases_eq, cases_Bool, cond-true, cond-false, cond_both, eq-eqb, eqb-true, eqb-false, or_left, or_right, or_cases}
 use Rattle.qbf.specs.Lists.{In, Distinct, mem, without}
@@ -39,11 +39,6 @@ pub in_cases : (k : ℕ) (xs ys : List ℕ) → In k (xs ++ ys) → In k xs ⊎ 
 in_cases k [] ys i = inr i
 in_cases k (x ∷ xs) ys (inl e) = inl (inl e)
 in_cases k (x ∷ xs) ys (inr i) = ⊎_elim (λ h. inl (inr h)) (λ h. inr h) (in_cases k xs ys i)
-
-pub in_get_d : (xs : List ℕ) (i : ℕ) → i < length xs → In (get_or xs i 0) xs
-in_get_d [] i h = absurd (omega arith)
-in_get_d (x ∷ xs) zero h = inl refl
-in_get_d (x ∷ xs) (suc i) h = inr (in_get_d xs i (omega arith))
 
 -- what holds of each element
 

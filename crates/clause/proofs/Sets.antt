@@ -1,11 +1,11 @@
 -- The laws of 'each literal once', 'both signs' and 'the same literals'.
 use Rattle.std.proofs.Common.{◌≡◌, ℕ, ◌<◌, ◌≤◌, Bool, true, false, ◌||◌, eqb, ◌⊎◌, List, [], ◌∷◌, ◌++◌, length, Decides, sym, refl, ap, ◌∙◌, subst, inl, inr, ⊎_elim, append-nil, arith}
-use Rattle.std.specs.List.{AllByRecursion}
-use Rattle.std.proofs.lemmas.Bool.{both_ways, cases_eq, cond-true, cond-false, eq-eqb, ne_eqb, or_left, or_right, or_cases, and_parts, and_from}
+use Rattle.std.specs.List.{AllByRecursion, list_all, list_any}
+use Rattle.std.proofs.lemmas.Bool.{both_ways, cases_Bool, cases_eq, cond-true, cond-false, eq-eqb, ne_eqb, or_left, or_right, or_cases, and_parts, and_from}
 use Rattle.std.proofs.lemmas.Bool.Decides.{same_from_decides, Decides-like, Decides-and, Decides-or}
 use Rattle.qbf.specs.Literals.{complement}
 use Rattle.qbf.specs.Lists.{In, Distinct, mem, without}
-use Rattle.clause.specs.Once.{once, some, each, both_signs, within, same_set, OnceStands}
+use Rattle.clause.specs.Once.{once, both_signs, within, same_set, OnceStands}
 use Rattle.clause.proofs.Members.{in_mem, mem_in, mem_decides, cases_in, in_left, in_right, in_cases, apart_from_in, without_out, without_in, all_without, without_distinct, without_apart, without_append, length_without, length_inside}
 
 -- each literal once
@@ -60,24 +60,24 @@ once_old (c ∷ xs) x i =
 
 -- tests of some and of each literal
 
-pub some_out : (test : ℕ → Bool) (cs : List ℕ) → some test cs ≡ true → (k : ℕ) × In k cs × (test k ≡ true)
-some_out test [] e = absurd (both_ways false refl e)
-some_out test (c ∷ cs) e =
-    ⊎_elim (λ h. (c, inl refl, h)) (λ h. let r = some_out test cs h in (r.0, inr r.1, r.2)) (or_cases (test c) (some test cs) e)
+pub any_out : (test : ℕ → Bool) (cs : List ℕ) → list_any test cs ≡ true → (k : ℕ) × In k cs × (test k ≡ true)
+any_out test [] e = absurd (both_ways false refl e)
+any_out test (c ∷ cs) e =
+    ⊎_elim (λ h. (c, inl refl, h)) (λ h. let r = any_out test cs h in (r.0, inr r.1, r.2)) (or_cases (test c) (list_any test cs) e)
 
-pub some_in : (test : ℕ → Bool) (cs : List ℕ) (k : ℕ) → In k cs → test k ≡ true → some test cs ≡ true
-some_in test [] k i h = elim i [ ]
-some_in test (c ∷ cs) k (inl e) h = or_left (test c) _ (ap test (sym e) ∙ h)
-some_in test (c ∷ cs) k (inr i) h = or_right (test c) _ (some_in test cs k i h)
+pub any_in : (test : ℕ → Bool) (cs : List ℕ) (k : ℕ) → In k cs → test k ≡ true → list_any test cs ≡ true
+any_in test [] k i h = elim i [ ]
+any_in test (c ∷ cs) k (inl e) h = or_left (test c) _ (ap test (sym e) ∙ h)
+any_in test (c ∷ cs) k (inr i) h = or_right (test c) _ (any_in test cs k i h)
 
-pub each_out : (test : ℕ → Bool) (cs : List ℕ) → each test cs ≡ true → (k : ℕ) → In k cs → test k ≡ true
-each_out test [] e k i = elim i [ ]
-each_out test (c ∷ cs) e k (inl f) = ap test f ∙ (and_parts (test c) (each test cs) e).0
-each_out test (c ∷ cs) e k (inr i) = each_out test cs (and_parts (test c) (each test cs) e).1 k i
+pub all_out : (test : ℕ → Bool) (cs : List ℕ) → list_all test cs ≡ true → (k : ℕ) → In k cs → test k ≡ true
+all_out test [] e k i = elim i [ ]
+all_out test (c ∷ cs) e k (inl f) = ap test f ∙ (and_parts (test c) (list_all test cs) e).0
+all_out test (c ∷ cs) e k (inr i) = all_out test cs (and_parts (test c) (list_all test cs) e).1 k i
 
-pub each_in : (test : ℕ → Bool) (cs : List ℕ) → ((k : ℕ) → In k cs → test k ≡ true) → each test cs ≡ true
-each_in test [] h = refl
-each_in test (c ∷ cs) h = and_from (test c) (each test cs) (h c (inl refl)) (each_in test cs (λ k i. h k (inr i)))
+pub all_in : (test : ℕ → Bool) (cs : List ℕ) → ((k : ℕ) → In k cs → test k ≡ true) → list_all test cs ≡ true
+all_in test [] h = refl
+all_in test (c ∷ cs) h = and_from (test c) (list_all test cs) (h c (inl refl)) (all_in test cs (λ k i. h k (inr i)))
 
 -- both signs
 
@@ -93,17 +93,9 @@ Signs cs = (k : ℕ) × In k cs × In (complement k) cs
 
 pub signs : (cs : List ℕ) → Decides (both_signs cs) ((k : ℕ) × In k cs × In (complement k) cs)
 signs cs = (
-  λ e. let r = some_out (λ c. mem (complement c) cs) cs e in (r.0, r.1, mem_in (complement r.0) cs r.2),
-  λ h. some_in (λ c. mem (complement c) cs) cs h.0 h.1 (in_mem (complement h.0) cs h.2),
+  λ e. let r = any_out (λ c. mem (complement c) cs) cs e in (r.0, r.1, mem_in (complement r.0) cs r.2),
+  λ h. any_in (λ c. mem (complement c) cs) cs h.0 h.1 (in_mem (complement h.0) cs h.2),
 )
-
--- one more literal, which has come before
-pub both_signs_old : (xs : List ℕ) (x : ℕ) → In x xs → both_signs (xs ++ x ∷ []) ≡ both_signs xs
-both_signs_old xs x i =
-    let back : (k : ℕ) → In k (xs ++ x ∷ []) → In k xs = λ k j. ⊎_elim (λ h. h) (λ h. ⊎_elim (λ e. subst (λ (q : ℕ). In q xs) (sym e) i) (λ z. absurd z) h) (in_cases k xs (x ∷ []) j) in
-    same_from_decides (both_signs (xs ++ x ∷ [])) (both_signs xs)
-    (Decides-like (both_signs (xs ++ x ∷ [])) (λ h. (h.0, back h.0 h.1, back (complement h.0) h.2)) (λ h. (h.0, in_left h.0 xs _ h.1, in_left (complement h.0) xs _ h.2)) (signs (xs ++ x ∷ [])))
-    (signs xs)
 
 -- one more literal
 pub both_signs_more : (xs : List ℕ) (x : ℕ) → both_signs (xs ++ x ∷ []) ≡ (both_signs xs || mem (complement x) xs)
@@ -132,7 +124,7 @@ both_signs_more xs x =
 -- the same literals
 
 pub within_decides : (a b : List ℕ) → Decides (within a b) ((k : ℕ) → In k a → In k b)
-within_decides a b = (λ e k i. mem_in k b (each_out (λ c. mem c b) a e k i), λ h. each_in (λ c. mem c b) a (λ k i. in_mem k b (h k i)))
+within_decides a b = (λ e k i. mem_in k b (all_out (λ c. mem c b) a e k i), λ h. all_in (λ c. mem c b) a (λ k i. in_mem k b (h k i)))
 
 pub same : (a b : List ℕ) → Decides (same_set a b) ((k : ℕ) → (In k a → In k b) × (In k b → In k a))
 same a b =
@@ -145,11 +137,12 @@ pub same_turned : (a b : List ℕ) → same_set a b ≡ same_set b a
 same_turned a b = same_from_decides (same_set a b) (same_set b a) (same a b) (Decides-like (same_set b a) (λ h k. ((h k).1, (h k).0)) (λ h k. ((h k).1, (h k).0)) (same b a))
 
 -- distinct codes, as many in the one as in the other: it is enough that the one holds the other
-pub same_by_length : (a b : List ℕ) → Distinct b → length a ≡ length b → ((k : ℕ) → In k b → In k a) → same_set a b ≡ true
-same_by_length a b d l h = (same a b).1 (λ k. (
-  λ i. ⊎_elim (λ j. j) (λ n. let m = length_inside (k ∷ b) a (apart_from_in k b n, d) (λ j p. ⊎_elim (λ e. subst (λ (q : ℕ). In q a) (sym e) i) (h j) p) in absurd (omega arith)) (cases_in k b),
-  h k,
-))
+pub within_as_long : (a b : List ℕ) → Distinct b → length a ≡ length b → within b a ≡ same_set a b
+within_as_long a b d l = same_from_decides (within b a) (same_set a b) (within_decides b a) (Decides-like (same_set a b) (λ h k. (h k).1) (λ h k. (back h k, h k)) (same a b))
+  where
+    back : ((k : ℕ) → In k b → In k a) → (k : ℕ) → In k a → In k b
+    back h k i =
+        ⊎_elim (λ j. j) (λ n. let m = length_inside (k ∷ b) a (apart_from_in k b n, d) (λ j p. ⊎_elim (λ e. subst (λ (q : ℕ). In q a) (sym e) i) (h j) p) in absurd (omega arith)) (cases_in k b)
 
 -- distinct codes with the same members are as many
 pub same_length : (a b : List ℕ) → Distinct a → Distinct b → same_set a b ≡ true → length a ≡ length b
@@ -159,16 +152,9 @@ same_length a b da db e =
     let n = length_inside b a db (λ k. (h k).1) in
     omega arith
 
--- and these tell two lists apart: another number of distinct codes, or a code that the other lacks
-unless : (r : Bool) → (r ≡ true → ⊥) → false ≡ r
-unless true n = absurd (n refl)
-unless false n = refl
-
-pub apart_by_length : (a b : List ℕ) → Distinct a → Distinct b → (length a ≡ length b → ⊥) → false ≡ same_set a b
-apart_by_length a b da db n = unless (same_set a b) (λ e. n (same_length a b da db e))
-
-pub apart_by_code : (a b : List ℕ) (k : ℕ) → In k b → (In k a → ⊥) → false ≡ same_set a b
-apart_by_code a b k i n = unless (same_set a b) (λ e. n (((same a b).0 e k).1 i))
+-- so two lists with another number of distinct codes are not the same
+pub other_length : (a b : List ℕ) → Distinct a → Distinct b → (length a ≡ length b → ⊥) → same_set a b ≡ false
+other_length a b da db n = ⊎_elim (λ e. absurd (n (same_length a b da db e))) (λ e. e) (cases_Bool (same_set a b))
 
 pub once_stands_lem : OnceStands
 once_stands_lem = (

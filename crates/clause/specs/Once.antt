@@ -1,6 +1,6 @@
 -- A clause is a set of literals; as it was written, it is a list of their codes.
-use Rattle.std.specs.Prelude.{◌≡◌, ℕ, ◌<◌, ◌≤◌, Bool, true, false, ◌&&◌, ◌||◌, List, [], ◌∷◌, length, Decides}
-use Rattle.std.specs.List.{AllByRecursion}
+use Rattle.std.specs.Prelude.{◌≡◌, ℕ, ◌<◌, ◌≤◌, Bool, true, ◌&&◌, List, [], ◌∷◌, length, Decides}
+use Rattle.std.specs.List.{AllByRecursion, list_all, list_any}
 use Rattle.qbf.specs.Literals.{complement}
 use Rattle.qbf.specs.Lists.{In, Distinct, mem, without}
 
@@ -9,23 +9,13 @@ abbrev pub once : List ℕ → List ℕ
 once [] = []
 once (c ∷ cs) = c ∷ without c (once cs)
 
--- whether some literal of the list passes the test
-abbrev pub some : (ℕ → Bool) → List ℕ → Bool
-some test [] = false
-some test (c ∷ cs) = test c || some test cs
-
--- whether each literal of the list passes the test
-abbrev pub each : (ℕ → Bool) → List ℕ → Bool
-each test [] = true
-each test (c ∷ cs) = test c && each test cs
-
 -- whether some variable stands in the list with both signs
 abbrev pub both_signs : List ℕ → Bool
-both_signs cs = some (λ c. mem (complement c) cs) cs
+both_signs cs = list_any (λ c. mem (complement c) cs) cs
 
 -- whether each literal of the first list stands in the second
 abbrev pub within : List ℕ → List ℕ → Bool
-within a b = each (λ c. mem c b) a
+within a b = list_all (λ c. mem c b) a
 
 -- whether two lists have the same literals, in whatever order
 abbrev pub same_set : List ℕ → List ℕ → Bool

@@ -3,32 +3,27 @@
 // Two clauses can be compared as sets of literals, in time linear in their lengths.
 #![tactic(auto)]
 
-ghost use Rattle.std.specs.Prelude.{◌≡◌, ℕ, ◌<◌, ◌≤◌, false, length, take, ◌≢◌, slice_index, slice_index_or};
+ghost use Rattle.std.specs.Prelude.{◌≡◌, ℕ, false, slice_index_or};
+ghost use Rattle.arrays.specs.Lists.{items_of};
 ghost use Rattle.qbf.specs.Lists.{mem};
-ghost use Rattle.clause.specs.Once.{OnceStands};
+ghost use Rattle.clause.specs.Once.{once, OnceStands};
 
-mod marks;
+mod asked;
 mod taken;
 
-use marks::Marks;
+use arrays::{ByCode, FixedList};
 
 // The literals of a clause, each once, in the order in which they first came. Their codes are marked, to be looked up.
 #[derive(Clone, Copy)]
 pub struct Clause {
-    codes: [u16; 512],
-    len: usize,
+    codes: FixedList<u16, 512>,
     both_signs: bool,
-    marks: Marks,
-    ghost long: { length codes ≡ 512 },
-    ghost fits: { len ≤ 512 },
-    ghost small: { (k : ℕ) → k < len → slice_index codes k < 512 },
-    ghost apart: { (j k : ℕ) → j < k → k < len → slice_index codes j ≢ slice_index codes k },
-    ghost marked: { (k : ℕ) → slice_index_or marks.at k false ≡ mem k (take len codes) },
+    marks: ByCode<bool>,
+    ghost apart: { once (items_of codes) ≡ items_of codes },
+    ghost marked: { (k : ℕ) → slice_index_or marks.at k false ≡ mem k (items_of codes) },
 }
 
 // What 'each literal once', 'both signs' and 'the same literals' mean for clauses as sets.
-pub fn once_stands() -> u8
+pub fn once_stands()
     ensures { OnceStands }
-{
-    0
-}
+{}

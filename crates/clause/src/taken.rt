@@ -1,12 +1,13 @@
-// A clause taken from the literals as written, and what is asked of it.
-ghost use Rattle.std.specs.Prelude.{◌≡◌, ◌<◌};
+// A clause taken from the literals as written.
+ghost use Rattle.std.specs.Prelude.{◌≡◌, ◌<◌, ◌||◌, ◌∷◌, [], ◌++◌, if◌then◌else◌};
 ghost use Rattle.std.specs.List.{AllByRecursion};
-ghost use Rattle.qbf.specs.Lists.{Distinct};
-ghost use Rattle.clause.specs.Once.{once, both_signs, same_set};
+ghost use Rattle.qbf.specs.Literals.{complement};
+ghost use Rattle.qbf.specs.Lists.{mem};
+ghost use Rattle.clause.specs.Once.{once, both_signs};
 ghost use Rattle.clause.specs.Codes.{codes_of};
 
 use crate::Clause;
-use crate::marks::Marks;
+use arrays::{ByCode, FixedList};
 use qbf::opposite;
 
 impl Clause {
@@ -16,59 +17,27 @@ impl Clause {
         ensures codes { codes_of result ≡ once literals.now }
         ensures flag { result.both_signs ≡ both_signs literals.now }
     {
-        let mut marks = Marks::new();
-        let mut codes = [0; 512];
-        let mut len = 0;
-        let mut both_signs = false;
+        let mut clause = Clause {
+            codes: FixedList::new(0),
+            both_signs: false,
+            marks: ByCode::new(false),
+        };
         for literal in literals {
-            let code = *literal;
-            if marks.has(code) {
-                continue;
-            }
-            if marks.has(opposite(code)) {
-                both_signs = true;
-            }
-            marks.add(code);
-            codes[len] = code;
-            len += 1;
+            clause.add(*literal);
         }
-        Clause {
-            codes,
-            len,
-            both_signs,
-            marks,
-        }
+        clause
     }
 
-    // The literals of the clause, each once.
-    pub fn codes(&self) -> &[u16]
-        ensures { result.now ≡ codes_of self.now }
+    // One literal more, unless it has come before.
+    fn add(&mut self, code: u16)
+        requires { code < 512 }
+        ensures codes { codes_of self.new ≡ (if mem code (codes_of self.old) then codes_of self.old else codes_of self.old ++ code ∷ []) }
+        ensures flag { self.new.both_signs ≡ (self.old.both_signs || mem (complement code) (codes_of self.old)) }
     {
-        &self.codes[..self.len]
-    }
-
-    // Whether some variable stands in the clause with both signs.
-    pub fn has_both_signs(&self) -> bool
-        ensures { result ≡ self.now.both_signs }
-    {
-        self.both_signs
-    }
-
-    // Whether the clause has the same literals as a stored one, in whatever order.
-    // Each of the two has each literal once, so they are the same when they are as long and the one holds the other.
-    pub fn same_literals(&self, stored: &[u16]) -> bool
-        requires small { AllByRecursion (λ c. c < 512) stored.now }
-        requires distinct { Distinct stored.now }
-        ensures { result ≡ same_set (codes_of self.now) stored.now }
-    {
-        if stored.len() != self.len {
-            return false;
+        self.both_signs |= self.has(opposite(code));
+        if !self.has(code) {
+            self.marks.set(code, true);
+            self.codes.push(code);
         }
-        for code in stored {
-            if !self.marks.has(*code) {
-                return false;
-            }
-        }
-        true
     }
 }
