@@ -1,16 +1,11 @@
 -- The memo that forgets every second pair.
-use Rattle.std.specs.Prelude.{◌≡◌, ℕ, Bool, cond, not, Some, None, Option, ◌==◌}
+use Rattle.std.specs.Prelude.{◌≡◌, ℕ, Bool, cond, not, Some, None, ◌==◌}
 use Rattle.qbf.specs.Memo.{Pairs}
-use Rattle.open_traits.specs.declared.alternating.Noted.{Noted}
+use Rattle.memos.specs.Slots.{slot_verdict}
 use Rattle.open_traits.specs.declared.alternating.Alternating.{Alternating}
 
--- the verdict of a pair, for its own number
-abbrev pub verdict_for : Option Noted → Pairs
-verdict_for None k = None
-verdict_for (Some p) k = cond (k == p.number) (Some p.verdict) None
-
 abbrev pub alternating_held : Alternating → Pairs
-alternating_held s = verdict_for s.taken
+alternating_held s = slot_verdict s.taken
 
 -- a pair that is forgotten takes only an earlier one of its number along; one that is taken is then the only one held
 pub record AlternatingNotes (before : Alternating) (n : ℕ) (v : Bool) (after : Alternating) : Type 0 where

@@ -3,17 +3,11 @@ ghost use Rattle.qbf.specs.Memo.{Empty};
 ghost use Rattle.open_traits.specs.Alternates.{alternating_held, AlternatingNotes};
 ghost use Rattle.std.proofs.Common.{rules};
 
-use memos::Memo;
-
-#[derive(Clone, Copy)]
-pub struct Noted {
-    number: u16,
-    verdict: bool,
-}
+use memos::{Memo, Pair};
 
 #[derive(Clone, Copy)]
 pub struct Alternating {
-    taken: Option<Noted>,
+    taken: Option<Pair>,
     // whether the next pair is forgotten
     forgets: bool,
 }
@@ -37,19 +31,17 @@ impl Memo for Alternating {
     ghost kept = { Prim.search rules };
 
     fn recall(&self, number: u16) -> Option<bool> {
-        match self.taken {
-            Some(noted) if noted.number == number => Some(noted.verdict),
-            _ => None,
-        }
+        let own = self.taken.filter(|pair| pair.number == number);
+        own.map(|pair| pair.verdict)
     }
 
     // An earlier pair of a forgotten number goes as well: no memo may tell a verdict that a later note has overtaken.
     fn note(&mut self, number: u16, verdict: bool) {
-        if !self.forgets {
-            self.taken = Some(Noted { number, verdict });
-        } else if self.recall(number).is_some() {
-            self.taken = None;
-        }
+        self.taken = if self.forgets {
+            self.taken.filter(|pair| pair.number != number)
+        } else {
+            Some(Pair { number, verdict })
+        };
         self.forgets = !self.forgets;
     }
 

@@ -14,6 +14,6 @@ impl Chooser for Last {
     ghost listed = { λ _. last_listed };
 
     fn choose(&self, candidates: &[Candidate]) -> u16 {
-        candidates[candidates.len() - 1].position
+        candidates.last().unwrap().position
     }
 }

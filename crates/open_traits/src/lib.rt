@@ -31,7 +31,7 @@ pub fn split_position<C: Chooser>(chooser: &C, candidates: &[Candidate]) -> Opti
         (length candidates.now ≡ 0)
         (λ p. (p ≡ C.picks chooser.now candidates.now) × Listed p candidates.now) }
 {
-    if candidates.len() == 0 {
+    if candidates.is_empty() {
         return None;
     }
     Some(chooser.choose(candidates))
