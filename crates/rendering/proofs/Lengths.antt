@@ -57,7 +57,7 @@ length_block k =
     let l = length_letter k.quantifier in
     omega (arith, length-append (letter k.quantifier) (32 ∷ line (map decimal k.variables) zero_word))
 
-abbrev blocks_cost : List Block → ℕ
+abbrev pub blocks_cost : List Block → ℕ
 blocks_cost ks = length (flat_map block_line ks)
 
 cost_more : (k : Block) (ks : List Block) → blocks_cost (k ∷ ks) ≡ total number_cost k.variables + 4 + blocks_cost ks
@@ -80,7 +80,7 @@ front_same b (k ∷ ks) l =
     let g = cost_more (record { quantifier = k.quantifier; variables = b.variable ∷ k.variables }) ks in
     ap blocks_cost (cond-true (same_quantifier b.quantifier k.quantifier) _ _ l) ∙ omega arith
 
-front_most : (b : Binding) (ks : List Block) → blocks_cost (in_front b ks) ≤ number_cost b.variable + 4 + blocks_cost ks
+pub front_most : (b : Binding) (ks : List Block) → blocks_cost (in_front b ks) ≤ number_cost b.variable + 4 + blocks_cost ks
 front_most b [] = let g = cost_more (record { quantifier = b.quantifier; variables = b.variable ∷ [] }) [] in omega arith
 front_most b (k ∷ ks) =
     let h = cost_more k ks in

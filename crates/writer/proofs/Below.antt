@@ -12,7 +12,7 @@ use Rattle.table.specs.declared.table.Table.{Table}
 use Rattle.table.specs.Tables.{Number, clauses, Opens}
 use Rattle.table.proofs.Tables.{ends_stand, has_clause}
 use Rattle.rendering.specs.Render.{clause_line}
-use Rattle.writer.specs.Paths.{Below, lines_below}
+use Rattle.writer.specs.Below.{Below, lines_below}
 
 -- the two sets without nodes
 
@@ -93,15 +93,3 @@ module _ (t : Table) (n : ℕ) (x : Node) (held : Number t n) (o : Opens t n x) 
 
     pub below_low : (after : List ℕ) → after ≡ path → Below m after lo
     below_low after e = subst (λ (p : List ℕ). Below m p lo) (sym e) (record { path_bound = b.path_bound; bound = (sides (λ (k : ℕ). k < m) b.bound).1; deep = (sides (λ (k : ℕ). length path ≤ k) b.deep).1 })
-
--- all clauses are below the empty path
-all_from : (s : List (List ℕ)) → AllByRecursion (AllByRecursion (λ k. 0 ≤ k)) s
-all_from [] = tt
-all_from (c ∷ s) = (each c, all_from s)
-  where
-    each : (c : List ℕ) → AllByRecursion (λ k. 0 ≤ k) c
-    each [] = tt
-    each (k ∷ c) = (omega arith, each c)
-
-pub below_none : (m : ℕ) (path : List ℕ) (s : List (List ℕ)) → path ≡ [] → AllByRecursion (AllByRecursion (λ k. k < m)) s → Below m path s
-below_none m path s e b = subst (λ (p : List ℕ). Below m p s) (sym e) (record { path_bound = tt; bound = b; deep = all_from s })

@@ -1,78 +1,49 @@
--- The lines of the blocks, binding by binding.
-use Rattle.std.proofs.Common.{◌≡◌, ℕ, ◌+◌, ◌<◌, ◌≤◌, cond, List, [], ◌∷◌, ◌++◌, map, length, get_or, drop, Some, None, decimal, Option, refl, ap, ◌∙◌, append_assoc, append-nil}
-use Rattle.std.specs.List.{flat_map}
-use Rattle.std.proofs.lemmas.List.{at_drop_more, at_drop_all}
+-- The first block of a prefix: the variables up to the first that another quantifier binds.
+use Rattle.std.proofs.Common.{◌≡◌, ℕ, suc, Bool, true, false, List, [], ◌∷◌, take, drop, ◌++◌, Some, None, sym, refl, ap, ◌∙◌, arith}
+use Rattle.std.specs.List.{flat_map, prefix_len, slice_get}
+use Rattle.std.proofs.lemmas.Bool.{cond-true, cond-false}
 use Rattle.qbf.specs.declared.Quantifier.{Quantifier}
-use Rattle.qbf.specs.declared.Quantifier.TheVariants.{Existential, Universal}
 use Rattle.formula.specs.declared.prefix.Binding.{Binding}
-use Rattle.grammar.specs.Grammar.{zero_word}
-use Rattle.rendering.specs.Render.{line, same_quantifier, Block, in_front, blocks, block_line, prefix_lines}
-use Rattle.writer.specs.Lines.{ending, beginning, lead, binding_words}
-use Rattle.writer.proofs.Puts.{Writing, rest_as}
+use Rattle.grammar.specs.Grammar.{bind}
+use Rattle.rendering.specs.Render.{Block, same_quantifier, in_front, blocks, block_line, prefix_lines}
+use Rattle.rendering.proofs.Blocks.{same_is, same_itself}
+use Rattle.writer.specs.Lines.{block_of}
 
--- what is written of the bindings that are left, where a line is begun or none is
-abbrev pub bindings_left : Option Quantifier → List Binding → List ℕ
-bindings_left l [] = ending l
-bindings_left l (b ∷ bs) = binding_words l b ++ bindings_left (Some b.quantifier) bs
+-- how many from the front on the quantifier binds
+abbrev pub run : Quantifier → List Binding → ℕ
+run q bs = prefix_len (λ b. same_quantifier q b.quantifier) bs
 
--- what is written of the blocks that are left, where a line of the quantifier is begun
-abbrev blocks_left : Quantifier → List Block → List ℕ
-blocks_left q [] = 48 ∷ 10 ∷ []
-blocks_left q (k ∷ ks) = cond (same_quantifier q k.quantifier) (line (map decimal k.variables) zero_word ++ flat_map block_line ks) (48 ∷ 10 ∷ flat_map block_line (k ∷ ks))
+in_run : (q : Quantifier) (v : ℕ) (bs : List Binding) → in_front (bind q v) (blocks bs) ≡ block_of q (bind q v ∷ take (run q bs) bs) ∷ blocks (drop (run q bs) bs)
+in_run q v [] = refl
+in_run q v (c ∷ cs) = on (λ p. in_run p c.variable cs) (same_quantifier q c.quantifier) refl
+  where
+    goes_on : ℕ → List Block
+    goes_on n = block_of q (bind q v ∷ take n (c ∷ cs)) ∷ blocks (drop n (c ∷ cs))
 
--- a variable in front of a block begins the line of the block, or one of its own
-new_line : (q r : Quantifier) (v : ℕ) (vs : List ℕ) (ks : List Block) →
-    beginning q ++ ((decimal v ++ 32 ∷ []) ++ blocks_left q (record { quantifier = r; variables = vs } ∷ ks)) ≡ flat_map block_line (in_front (record { variable = v; quantifier = q }) (record { quantifier = r; variables = vs } ∷ ks))
-new_line Existential Existential v vs ks = simp append_assoc
-new_line Existential Universal v vs ks = simp append_assoc
-new_line Universal Existential v vs ks = simp append_assoc
-new_line Universal Universal v vs ks = simp append_assoc
+    on : ((p : Quantifier) → in_front (bind p c.variable) (blocks cs) ≡ block_of p (bind p c.variable ∷ take (run p cs) cs) ∷ blocks (drop (run p cs) cs)) → (t : Bool) → same_quantifier q c.quantifier ≡ t → in_front (bind q v) (blocks (c ∷ cs)) ≡ goes_on (run q (c ∷ cs))
+    on first true e =
+        ap (λ (p : Quantifier). in_front (bind q v) (in_front (bind p c.variable) (blocks cs))) (sym (same_is q c.quantifier e))
+        ∙ ap (in_front (bind q v)) (first q)
+        ∙ cond-true _ _ _ (same_itself q)
+        ∙ (let n : run q (c ∷ cs) ≡ suc (run q cs) = cond-true _ _ _ e ∙ omega arith in sym (ap goes_on n))
+    on first false e =
+        ap (in_front (bind q v)) (first c.quantifier)
+        ∙ cond-false _ _ _ e
+        ∙ ap (λ (ks : List Block). block_of q (bind q v ∷ []) ∷ ks) (sym (first c.quantifier))
+        ∙ sym (ap goes_on (cond-false _ _ _ e))
 
-new_lines : (b : Binding) (ks : List Block) → beginning b.quantifier ++ ((decimal b.variable ++ 32 ∷ []) ++ blocks_left b.quantifier ks) ≡ flat_map block_line (in_front b ks)
-new_lines b [] = simp (append_assoc, append-nil)
-new_lines b (k ∷ ks) = new_line b.quantifier k.quantifier b.variable k.variables ks
+-- a prefix that is not empty begins with the line of its first block
+pub lines_front : (bs block behind : List Binding) (b : Binding) (n : ℕ) → slice_get bs 0 ≡ Some b → n ≡ run b.quantifier bs → block ≡ take n bs → behind ≡ drop n bs → prefix_lines bs ≡ block_line (block_of b.quantifier block) ++ prefix_lines behind
+lines_front [] block behind b n first e f g = absurd (cc)
+lines_front (c ∷ cs) block behind b n first e f g =
+    let here : c ≡ b = cc in
+    let long : n ≡ suc (run c.quantifier cs) = e ∙ ap (λ (d : Binding). run d.quantifier (c ∷ cs)) (sym here) ∙ cond-true _ _ _ (same_itself c.quantifier) ∙ omega arith in
+    ap (flat_map block_line) (in_run c.quantifier c.variable cs)
+    ∙ ap (λ (k : ℕ). block_line (block_of c.quantifier (take k (c ∷ cs))) ++ prefix_lines (drop k (c ∷ cs))) (sym long)
+    ∙ ap (λ (d : Binding). block_line (block_of d.quantifier (take n (c ∷ cs))) ++ prefix_lines (drop n (c ∷ cs))) here
+    ∙ ap (λ (l : List Binding). block_line (block_of b.quantifier l) ++ prefix_lines (drop n (c ∷ cs))) (sym f)
+    ∙ ap (λ (l : List Binding). block_line (block_of b.quantifier block) ++ prefix_lines l) (sym g)
 
--- a variable in front of the blocks, where a line is begun
-same_line : (p q r : Quantifier) (v : ℕ) (vs : List ℕ) (ks : List Block) →
-    lead (Some p) q ++ ((decimal v ++ 32 ∷ []) ++ blocks_left q (record { quantifier = r; variables = vs } ∷ ks)) ≡ blocks_left p (in_front (record { variable = v; quantifier = q }) (record { quantifier = r; variables = vs } ∷ ks))
-same_line Existential Existential Existential v vs ks = simp append_assoc
-same_line Existential Existential Universal v vs ks = simp append_assoc
-same_line Existential Universal Existential v vs ks = simp append_assoc
-same_line Existential Universal Universal v vs ks = simp append_assoc
-same_line Universal Existential Existential v vs ks = simp append_assoc
-same_line Universal Existential Universal v vs ks = simp append_assoc
-same_line Universal Universal Existential v vs ks = simp append_assoc
-same_line Universal Universal Universal v vs ks = simp append_assoc
-
-only_line : (p q : Quantifier) (v : ℕ) → lead (Some p) q ++ ((decimal v ++ 32 ∷ []) ++ (48 ∷ 10 ∷ [])) ≡ blocks_left p (in_front (record { variable = v; quantifier = q }) [])
-only_line Existential Existential v = simp (append_assoc, append-nil)
-only_line Existential Universal v = simp (append_assoc, append-nil)
-only_line Universal Existential v = simp (append_assoc, append-nil)
-only_line Universal Universal v = simp (append_assoc, append-nil)
-
-same_lines : (p : Quantifier) (b : Binding) (ks : List Block) → lead (Some p) b.quantifier ++ ((decimal b.variable ++ 32 ∷ []) ++ blocks_left b.quantifier ks) ≡ blocks_left p (in_front b ks)
-same_lines p b [] = only_line p b.quantifier b.variable
-same_lines p b (k ∷ ks) = same_line p b.quantifier k.quantifier b.variable k.variables ks
-
-left_as : (q : Quantifier) (bs : List Binding) → bindings_left (Some q) bs ≡ blocks_left q (blocks bs)
-left_as q [] = refl
-left_as q (b ∷ bs) =
-    append_assoc (lead (Some q) b.quantifier) (decimal b.variable ++ 32 ∷ []) (bindings_left (Some b.quantifier) bs)
-    ∙ ap (λ (l : List ℕ). lead (Some q) b.quantifier ++ ((decimal b.variable ++ 32 ∷ []) ++ l)) (left_as b.quantifier bs)
-    ∙ same_lines q b (blocks bs)
-
--- binding by binding, the lines of the prefix are written
-pub prefix_as : (bs : List Binding) → bindings_left None bs ≡ prefix_lines bs
-prefix_as [] = refl
-prefix_as (b ∷ bs) =
-    append_assoc (beginning b.quantifier) (decimal b.variable ++ 32 ∷ []) (bindings_left (Some b.quantifier) bs)
-    ∙ ap (λ (l : List ℕ). beginning b.quantifier ++ ((decimal b.variable ++ 32 ∷ []) ++ l)) (left_as b.quantifier bs)
-    ∙ new_lines b (blocks bs)
-
--- the lines of the prefix, put as far as the binding at a place
-module _ {xs : List ℕ} {at : ℕ} {whole : List ℕ} (l : Option Quantifier) (bs : List Binding) (i : ℕ) {ys : List ℕ} {j : ℕ} where
-  pub binding_next : (d : Binding) → i < length bs → Writing xs at whole (bindings_left l (drop i bs)) ys j → Writing xs at whole (binding_words l (get_or bs i d) ++ bindings_left (Some (get_or bs i d).quantifier) (drop (i + 1) bs)) ys j
-  binding_next d h w = rest_as (at_drop_more (bindings_left l) bs i d h) w
-
-  pub bindings_put : length bs ≤ i → Writing xs at whole (bindings_left l (drop i bs)) ys j → Writing xs at whole (ending l) ys j
-  bindings_put h w = rest_as (at_drop_all (bindings_left l) bs i h) w
+pub no_lines : (bs : List Binding) → slice_get bs 0 ≡ None → prefix_lines bs ≡ []
+no_lines [] e = refl
+no_lines (b ∷ bs) e = absurd (cc)

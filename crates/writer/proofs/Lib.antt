@@ -1,7 +1,6 @@
 pub mod Puts
-pub mod Texts
 pub mod Blocks
 pub mod Below
 pub mod Sizes
-pub mod Parts
+pub mod Written
 pub mod Facts

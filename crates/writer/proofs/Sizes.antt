@@ -1,26 +1,21 @@
 -- How long a text can be: a number has at most 64 bytes, a clause 512 literals, a set 2,048 clauses.
-use Rattle.std.proofs.Common.{◌≡◌, ℕ, zero, suc, ◌+◌, ◌*◌, ◌/◌, ◌%◌, ◌<◌, ◌≤◌, false, eqb, List, [], ◌∷◌, ◌++◌, length, Some, None, decimal, Option, sym, ap, subst, arith, length-append, length-take}
+use Rattle.std.proofs.Common.{ℕ, zero, suc, ◌+◌, ◌*◌, ◌/◌, ◌%◌, ◌^◌, ◌<◌, ◌≤◌, false, eqb, List, [], ◌∷◌, length, decimal, arith, length-take}
 use Rattle.std.specs.Fmt.{digits_onto, digits, digit_glyph}
 use Rattle.std.specs.List.{AllByRecursion}
 use Rattle.std.proofs.ByRecursion.{All-weaker}
 use Rattle.std.proofs.lemmas.Bool.{cond_both}
-use Rattle.qbf.specs.declared.Quantifier.{Quantifier}
-use Rattle.qbf.specs.declared.Quantifier.TheVariants.{Existential, Universal}
 use Rattle.qbf.specs.Clauses.{Rising}
 use Rattle.words.specs.declared.literals.Literal.{Literal}
 use Rattle.words.specs.Numbers.{written}
 use Rattle.formula.specs.declared.prefix.Binding.{Binding}
 use Rattle.formula.specs.declared.prefix.Prefix.{Prefix}
 use Rattle.formula.specs.Views.{bindings_of}
-use Rattle.rendering.specs.Render.{render, prefix_lines, literal_of}
+use Rattle.rendering.specs.Render.{render, blocks, prefix_lines, literal_of}
 use Rattle.rendering.proofs.Sums.{total}
-use Rattle.rendering.proofs.Lengths.{length_render, length_problem, length_clauses, literal_cost, clause_cost}
+use Rattle.rendering.proofs.Lengths.{length_render, length_problem, length_clauses, literal_cost, clause_cost, front_most}
 use Rattle.table.specs.declared.table.Table.{Table}
 use Rattle.table.specs.Tables.{Number, clauses}
 use Rattle.table.proofs.Tables.{sets_formed}
-use Rattle.writer.specs.Lines.{goes_on, ending, beginning, lead, binding_words}
-use Rattle.writer.specs.Puts.{Room}
-use Rattle.writer.proofs.Blocks.{bindings_left, prefix_as}
 
 spelled_most : (k n : ℕ) (acc : List ℕ) → length (digits_onto k 10 false n acc) ≤ k + length acc
 spelled_most zero n acc = omega arith
@@ -39,35 +34,13 @@ written_most l =
 
 -- the lines of the prefix
 
-beginning_most : (q : Quantifier) → length (beginning q) ≤ 2
-beginning_most Existential = omega arith
-beginning_most Universal = omega arith
-
-ending_most : (l : Option Quantifier) → length (ending l) ≤ 2
-ending_most None = omega arith
-ending_most (Some r) = omega arith
-
-lead_most : (l : Option Quantifier) (q : Quantifier) → length (lead l q) ≤ 4
-lead_most l q =
-    let b = beginning_most q in
-    let e = ending_most l in
-    cond_both (goes_on l q) [] (ending l ++ beginning q) (λ (t : List ℕ). length t ≤ 4) (λ _. omega arith) (λ _. omega (arith, length-append (ending l) (beginning q)))
-
-binding_most : (l : Option Quantifier) (b : Binding) → length (binding_words l b) ≤ 69
-binding_most l b =
-    let h = lead_most l b.quantifier in
+prefix_most : (bs : List Binding) → length (prefix_lines bs) ≤ 69 * length bs
+prefix_most [] = omega arith
+prefix_most (b ∷ bs) =
+    let h = front_most b (blocks bs) in
     let d = decimal_most b.variable in
-    omega (arith, length-append (lead l b.quantifier) (decimal b.variable ++ 32 ∷ []), length-append (decimal b.variable) (32 ∷ []))
-
-bindings_most : (l : Option Quantifier) (bs : List Binding) → length (bindings_left l bs) ≤ 69 * length bs + 2
-bindings_most l [] = ending_most l
-bindings_most l (b ∷ bs) =
-    let h = binding_most l b in
-    let ih = bindings_most (Some b.quantifier) bs in
-    omega (arith, length-append (binding_words l b) (bindings_left (Some b.quantifier) bs))
-
-prefix_most : (bs : List Binding) → length (prefix_lines bs) ≤ 69 * length bs + 2
-prefix_most bs = let h = bindings_most None bs in let e = ap length (prefix_as bs) in omega arith
+    let ih = prefix_most bs in
+    omega arith
 
 -- the lines of the clauses
 
@@ -100,18 +73,14 @@ pub prefix_short : (p : Prefix) → length (bindings_of p) ≤ 256
 prefix_short p = let f = p.fits in omega (arith, length-take p.len p.bindings)
 
 -- so every text that is written can be counted
-module _ (t : Table) (n : ℕ) (p : Prefix) (bs : List Binding) (e : bs ≡ bindings_of p) (bound : AllByRecursion (AllByRecursion (λ k. k < 2 * length (bindings_of p))) (clauses t n)) where
-  pub bound_as : AllByRecursion (AllByRecursion (λ k. k < 2 * length bs)) (clauses t n)
-  bound_as = subst (λ (bs : List Binding). AllByRecursion (AllByRecursion (λ k. k < 2 * length bs)) (clauses t n)) (sym e) bound
-
-  pub room : (v : ℕ) → Number t n → length (clauses t n) ≤ 2048 → Room 0 (render v bs (clauses t n))
-  room v held few =
-      let s = clauses t n in
-      let l = prefix_short p in
-      let same = ap length e in
-      let u : AllByRecursion (AllByRecursion (λ k. k < 512)) s = All-weaker (AllByRecursion (λ (k : ℕ). k < 2 * length bs)) (AllByRecursion (λ (k : ℕ). k < 512)) (All-weaker (λ (k : ℕ). k < 2 * length bs) (λ (k : ℕ). k < 512) (λ k h. omega arith)) s bound_as in
-      let c = clauses_most bs s (sets_formed t n held).0 u in
-      let q = prefix_most bs in
-      let d = decimal_most v in
-      let f = decimal_most (length s) in
-      omega (arith, length_render v bs s, length_problem v (length s), length_clauses bs s)
+pub countable : (t : Table) (n v : ℕ) (p : Prefix) → Number t n → AllByRecursion (AllByRecursion (λ k. k < 2 * length (bindings_of p))) (clauses t n) → length (clauses t n) ≤ 2048 → length (render v (bindings_of p) (clauses t n)) < 2 ^ 64
+countable t n v p held bound few =
+    let s = clauses t n in
+    let bs = bindings_of p in
+    let l = prefix_short p in
+    let u : AllByRecursion (AllByRecursion (λ k. k < 512)) s = All-weaker (AllByRecursion (λ (k : ℕ). k < 2 * length bs)) (AllByRecursion (λ (k : ℕ). k < 512)) (All-weaker (λ (k : ℕ). k < 2 * length bs) (λ (k : ℕ). k < 512) (λ k h. omega arith)) s bound in
+    let c = clauses_most bs s (sets_formed t n held).0 u in
+    let q = prefix_most bs in
+    let d = decimal_most v in
+    let f = decimal_most (length s) in
+    omega (arith, length_render v bs s, length_problem v (length s), length_clauses bs s)

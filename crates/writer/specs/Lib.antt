@@ -1,4 +1,4 @@
 pub mod Puts
 pub mod Lines
-pub mod Paths
+pub mod Below
 pub mod Written

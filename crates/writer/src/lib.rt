@@ -5,8 +5,5 @@
 
 mod clauses;
 mod lines;
-mod path;
 mod pen;
 mod whole;
-
-pub use whole::{TooShort, write};

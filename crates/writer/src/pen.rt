@@ -1,37 +1,53 @@
-// Bytes put into a buffer, one behind the other. Each function answers the place behind what it put.
+// A pen puts text into a buffer, one part behind the other.
 // What lies past the end of the buffer is counted and not written, so that a text can be measured with no buffer at all.
-ghost use Rattle.std.specs.Prelude.{[], ◌∷◌, decimal};
-ghost use Rattle.writer.specs.Puts.{Put, Room};
+ghost use Rattle.std.specs.Prelude.{◌≡◌, [], ◌∷◌, decimal};
+ghost use Rattle.writer.specs.Puts.{Puts};
 
-pub fn put(buffer: &mut [u8], at: usize, byte: u8) -> usize
-    requires { Room at (byte ∷ []) }
-    ensures { Put buffer.old at (byte ∷ []) buffer.new result }
-{
-    if at < buffer.len() {
-        buffer[at] = byte;
-    }
-    at + 1
+#[derive(Drop)]
+pub struct Pen<'a> {
+    buffer: &'a mut [u8],
+    at: usize,
 }
 
-pub fn put_bytes(buffer: &mut [u8], at: usize, bytes: &[u8]) -> usize
-    requires { Room at bytes.now }
-    ensures { Put buffer.old at bytes.now buffer.new result }
-{
-    let mut end = at;
-    for byte in bytes {
-        end = put(buffer, end, *byte);
+impl<'a> Pen<'a> {
+    // A pen at the front of the buffer.
+    pub fn new(buffer: &'a mut [u8]) -> Pen<'a>
+        ensures same_buffer { result.buffer.ghost_name ≡ buffer.entry.ghost_name }
+        ensures untouched { result.buffer.now ≡ buffer.old }
+        ensures at_front { result.at ≡ 0 }
+    {
+        Pen { buffer, at: 0 }
     }
-    end
-}
 
-// The number in decimal.
-pub fn put_number(buffer: &mut [u8], at: usize, number: u16) -> usize
-    requires { Room at (decimal number) }
-    ensures { Put buffer.old at (decimal number) buffer.new result }
-{
-    if number < 10 {
-        return put(buffer, at, b'0' + number as u8);
+    // How many bytes were put.
+    pub fn len(&self) -> usize
+        ensures { result ≡ self.now.at }
+    {
+        self.at
     }
-    let end = put_number(buffer, at, number / 10);
-    put(buffer, end, b'0' + (number % 10) as u8)
+
+    fn put_byte(&mut self, byte: u8)
+        ensures { Puts self.old (byte ∷ []) self.new }
+    {
+        let buffer = &mut *self.buffer;
+        if self.at < buffer.len() {
+            buffer[self.at] = byte;
+        }
+        self.at = self.at.saturating_add(1);
+    }
+
+    pub fn put(&mut self, text: &str)
+        ensures { Puts self.old text.now self.new }
+    {
+        for byte in text.as_bytes() {
+            self.put_byte(*byte);
+        }
+    }
+
+    pub fn put_number(&mut self, number: u16)
+        ensures { Puts self.old (decimal number) self.new }
+    {
+        let mut digits = itoa::Buffer::new();
+        self.put(digits.format(number));
+    }
 }

@@ -1,16 +1,17 @@
 // The whole text of a formula.
 ghost use Rattle.std.specs.Prelude.{◌*◌, ◌<◌, ◌≤◌, length, MatchResult};
 ghost use Rattle.std.specs.List.{AllByRecursion};
+ghost use Rattle.std.proofs.Props.{props};
 ghost use Rattle.formula.specs.Views.{bindings_of};
 ghost use Rattle.rendering.specs.Render.{render};
 ghost use Rattle.table.specs.Tables.{Number, clauses};
-ghost use Rattle.writer.specs.Puts.{Put, Room};
-ghost use Rattle.writer.specs.Written.{Written, Short};
+ghost use Rattle.writer.specs.Puts.{Puts};
+ghost use Rattle.writer.specs.Written.{Put, Written, Short};
 
-use crate::clauses::{count_clauses, put_clauses};
-use crate::lines::{put_prefix, put_problem};
-use crate::path::Path;
-use formula::{Binding, Prefix};
+use crate::clauses::count_clauses;
+use crate::pen::Pen;
+use arrays::FixedList;
+use formula::Prefix;
 use table::Table;
 
 // The buffer is too short for the text, which has `needed` bytes.
@@ -19,25 +20,36 @@ pub struct TooShort {
     pub needed: usize,
 }
 
-// The text from the front of the buffer on, as far as the buffer reaches; its whole length is the answer.
-fn put_formula(
-    buffer: &mut [u8],
-    table: &Table,
+// What is written: V, a prefix, and the clauses of a set of the table, whose variables the prefix binds.
+#[derive(Clone, Copy)]
+struct Content<'a> {
+    table: &'a Table,
     number: u16,
     variables: u16,
-    prefix: &[Binding],
-) -> usize
-    requires held { Number table.now number }
-    requires bound { AllByRecursion (AllByRecursion (λ k. k < 2 * length prefix.now)) (clauses table.now number) }
-    requires few { length (clauses table.now number) ≤ 2048 }
-    requires room { Room 0 (render variables prefix.now (clauses table.now number)) }
-    ensures { Put buffer.old 0 (render variables prefix.now (clauses table.now number)) buffer.new result }
-{
-    let count = count_clauses(table, number);
-    let end = put_problem(buffer, 0, variables, count);
-    let end = put_prefix(buffer, end, prefix);
-    let mut path = Path::new();
-    put_clauses(buffer, end, table, number, prefix, &mut path)
+    prefix: &'a Prefix,
+    ghost held: { Number table.now number },
+    ghost bound: { AllByRecursion (AllByRecursion (λ k. k < 2 * length (bindings_of prefix.now))) (clauses table.now number) } by { Prim.hlevel props },
+    ghost few: { length (clauses table.now number) ≤ 2048 },
+}
+
+impl Content<'_> {
+    fn put_text(&self, pen: &mut Pen)
+        ensures { Puts pen.old (render self.now.variables (bindings_of self.now.prefix.now) (clauses self.now.table.now self.now.number)) pen.new }
+    {
+        let prefix = self.prefix.bindings();
+        pen.put_problem(self.variables, count_clauses(self.table, self.number));
+        pen.put_prefix(prefix);
+        pen.put_clauses(self.table, self.number, prefix, &mut FixedList::new(0));
+    }
+
+    // Puts the text over the front of the buffer, as far as the buffer reaches, and tells its whole length.
+    fn put(&self, buffer: &mut [u8]) -> usize
+        ensures { Put (render self.now.variables (bindings_of self.now.prefix.now) (clauses self.now.table.now self.now.number)) buffer.old buffer.new result }
+    {
+        let mut pen = Pen::new(buffer);
+        self.put_text(&mut pen);
+        pen.len()
+    }
 }
 
 // Writes the formula of V variables with this prefix and the clauses of a set of the table, and tells the text's length.
@@ -55,11 +67,16 @@ pub fn write(
         (Written (render variables (bindings_of prefix.now) (clauses table.now number)) buffer.old buffer.new)
         (λ e. Short (render variables (bindings_of prefix.now) (clauses table.now number)) buffer.old buffer.new e.needed) }
 {
-    let bindings = prefix.bindings();
+    let content = Content {
+        table,
+        number,
+        variables,
+        prefix,
+    };
     // Put nowhere, the text is only measured.
-    let needed = put_formula(&mut [], table, number, variables, bindings);
+    let needed = content.put(&mut []);
     if needed > buffer.len() {
         return Err(TooShort { needed });
     }
-    Ok(put_formula(buffer, table, number, variables, bindings))
+    Ok(content.put(buffer))
 }

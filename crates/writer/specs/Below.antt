@@ -1,13 +1,8 @@
 -- The clauses below a path.
-use Rattle.std.specs.Prelude.{ℕ, ◌<◌, ◌≤◌, List, ◌++◌, length, take}
+use Rattle.std.specs.Prelude.{ℕ, ◌<◌, ◌≤◌, List, ◌++◌, length}
 use Rattle.std.specs.List.{flat_map, AllByRecursion}
 use Rattle.formula.specs.declared.prefix.Binding.{Binding}
 use Rattle.rendering.specs.Render.{clause_line}
-use Rattle.writer.specs.declared.path.Path.{Path}
-
--- the codes of a path, the lowest first
-abbrev pub codes_of : Path → List ℕ
-codes_of p = take p.len p.codes
 
 -- a path and the clauses below it: all codes are under n, and those of the clauses are no lower than the path is long
 pub record Below (n : ℕ) (path : List ℕ) (s : List (List ℕ)) : Type 0 where
