@@ -1,9 +1,6 @@
 use Rattle.std.proofs.lemmas.List.{drop_more, drop_all}
-use Rattle.writer.proofs.Puts.{left_all, left_next, left_last, puts_none}
+use Rattle.writer.proofs.Puts.{left_next, left_last, puts_none}
 use Rattle.writer.proofs.pen.Pen.put.Goals as goal
-
-pub loop-byte-init : goal.loop-byte-init
-loop-byte-init c = left_all _ _
 
 pub loop-byte-preserved : goal.loop-byte-preserved
 loop-byte-preserved c = left_next c.loop-byte.invariant c.put_byte.ensures (drop_more _ _ 0 c.loop-byte-test.true)

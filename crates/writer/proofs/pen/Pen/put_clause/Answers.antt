@@ -1,11 +1,8 @@
 use Rattle.std.proofs.Common.{refl}
 use Rattle.std.proofs.lemmas.List.{at_drop_more, at_drop_all}
 use Rattle.rendering.specs.Render.{clause_line}
-use Rattle.writer.proofs.Puts.{left_all, left_next, left_last}
+use Rattle.writer.proofs.Puts.{left_next, left_last}
 use Rattle.writer.proofs.pen.Pen.put_clause.Goals as goal
-
-pub loop-code-init : goal.loop-code-init
-loop-code-init c = left_all _ _
 
 pub loop-code-preserved : goal.loop-code-preserved
 loop-code-preserved c =
