@@ -2,6 +2,7 @@
 use Rattle.std.proofs.Common.{ℕ, ◌*◌, ◌<◌, ◌≤◌, Bool, true, false, List, [], length, sym, ap, subst, arith}
 use Rattle.std.specs.List.{AllByRecursion}
 use Rattle.std.proofs.ByRecursion.{All-weaker}
+use Rattle.arrays.proofs.Fits.{items_fit}
 use Rattle.formula.specs.declared.prefix.Binding.{Binding}
 use Rattle.formula.specs.declared.Formula.{Formula}
 use Rattle.formula.specs.Views.{Reading, reading, bindings_of, clauses_of}
@@ -12,7 +13,6 @@ use Rattle.rendering.specs.Render.{literal_of}
 use Rattle.rendering.proofs.Codes.{Known}
 use Rattle.rendering.proofs.Lengths.{problem_cost, clauses_cost}
 use Rattle.rendering.proofs.Stores.{codes_stored, codes_formed, length_stored}
-use Rattle.writer.proofs.Sizes.{prefix_short}
 
 code_within : (minus : Bool) (p n : ℕ) → p < n → code_at minus p < 2 * n
 code_within true p n h = omega arith
@@ -48,5 +48,5 @@ module _ {text : List ℕ} {f : Reading} (h : Format text f) where
 -- a formula that was read: all codes are below 512
 pub stored_coded : {text : List ℕ} (f : Formula) → Format text (reading f) → AllByRecursion (AllByRecursion (λ k. k < 512)) (clauses_of f.clauses)
 stored_coded f h =
-    let l = prefix_short f.prefix in
+    let l = items_fit f.prefix.bindings in
     All-weaker (AllByRecursion (λ (k : ℕ). k < 2 * length (bindings_of f.prefix))) (AllByRecursion (λ (k : ℕ). k < 512)) (All-weaker (λ (k : ℕ). k < 2 * length (bindings_of f.prefix)) (λ (k : ℕ). k < 512) (λ k b. omega arith)) (clauses_of f.clauses) (stored_within h)

@@ -1,9 +1,10 @@
 -- How long a text can be: a number has at most 64 bytes, a clause 512 literals, a set 2,048 clauses.
-use Rattle.std.proofs.Common.{ℕ, zero, suc, ◌+◌, ◌*◌, ◌/◌, ◌%◌, ◌^◌, ◌<◌, ◌≤◌, false, eqb, List, [], ◌∷◌, length, decimal, arith, length-take}
+use Rattle.std.proofs.Common.{ℕ, zero, suc, ◌+◌, ◌*◌, ◌/◌, ◌%◌, ◌^◌, ◌<◌, ◌≤◌, false, eqb, List, [], ◌∷◌, length, decimal, arith}
 use Rattle.std.specs.Fmt.{digits_onto, digits, digit_glyph}
 use Rattle.std.specs.List.{AllByRecursion}
 use Rattle.std.proofs.ByRecursion.{All-weaker}
 use Rattle.std.proofs.lemmas.Bool.{cond_both}
+use Rattle.arrays.proofs.Fits.{items_fit}
 use Rattle.qbf.specs.Clauses.{Rising}
 use Rattle.words.specs.declared.literals.Literal.{Literal}
 use Rattle.words.specs.Numbers.{written}
@@ -68,16 +69,12 @@ clauses_most prefix (c ∷ s) r u =
     let ih = clauses_most prefix s r.1 u.1 in
     omega arith
 
--- a prefix has at most 256 bindings
-pub prefix_short : (p : Prefix) → length (bindings_of p) ≤ 256
-prefix_short p = let f = p.fits in omega (arith, length-take p.len p.bindings)
-
 -- so every text that is written can be counted
 pub countable : (t : Table) (n v : ℕ) (p : Prefix) → Number t n → AllByRecursion (AllByRecursion (λ k. k < 2 * length (bindings_of p))) (clauses t n) → length (clauses t n) ≤ 2048 → length (render v (bindings_of p) (clauses t n)) < 2 ^ 64
 countable t n v p held bound few =
     let s = clauses t n in
     let bs = bindings_of p in
-    let l = prefix_short p in
+    let l = items_fit p.bindings in
     let u : AllByRecursion (AllByRecursion (λ k. k < 512)) s = All-weaker (AllByRecursion (λ (k : ℕ). k < 2 * length bs)) (AllByRecursion (λ (k : ℕ). k < 512)) (All-weaker (λ (k : ℕ). k < 2 * length bs) (λ (k : ℕ). k < 512) (λ k h. omega arith)) s bound in
     let c = clauses_most bs s (sets_formed t n held).0 u in
     let q = prefix_most bs in

@@ -10,7 +10,7 @@ use arrays::FixedList;
 use formula::Binding;
 use table::Table;
 
-// How many clauses the set has.
+// How many clauses the set has. (The tally of `survey` counts them too, but with a count for each literal, which is not asked here.)
 pub fn count_clauses(table: &Table, number: u16) -> u16
     requires held { Number table.now number }
     requires few { length (clauses table.now number) ≤ 2048 }

@@ -6,6 +6,7 @@ ghost use Rattle.writer.specs.Puts.{Puts};
 #[derive(Drop)]
 pub struct Pen<'a> {
     buffer: &'a mut [u8],
+    // how many bytes were put
     at: usize,
 }
 
@@ -19,13 +20,14 @@ impl<'a> Pen<'a> {
         Pen { buffer, at: 0 }
     }
 
-    // How many bytes were put.
+    // How many bytes were put, also past the end of the buffer.
     pub fn len(&self) -> usize
         ensures { result ≡ self.now.at }
     {
         self.at
     }
 
+    // No text is so long that the count stops at the largest number.
     fn put_byte(&mut self, byte: u8)
         ensures { Puts self.old (byte ∷ []) self.new }
     {
@@ -44,6 +46,7 @@ impl<'a> Pen<'a> {
         }
     }
 
+    // In decimal. A `write!` is not known to be Ok, and a pen never fails.
     pub fn put_number(&mut self, number: u16)
         ensures { Puts self.old (decimal number) self.new }
     {
