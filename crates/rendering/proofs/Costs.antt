@@ -47,7 +47,7 @@ ended_last d (b ∷ bs) e =
     sym (at_last b bs) ∙ ap (λ (i : ℕ). get_or (b ∷ bs) i 0) (sym n) ∙ e
 
 last_ink : (b : ℕ) (w : List ℕ) → Inked b → AllByRecursion Inked w → last b w ≡ 10 → ⊥
-last_ink b [] k ink e = let z : ◌≡◌ {A = ℕ} 0 1 = cc in omega arith
+last_ink b [] k ink e = cc
 last_ink b (c ∷ w) k ink e = last_ink c w ink.0 ink.1 e
 
 -- a word is not the text's end

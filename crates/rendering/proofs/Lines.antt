@@ -53,12 +53,12 @@ pub scan_line : (f : Bool) (off : ℕ) (ws : List (List ℕ)) (end rest : List �
 scan_line f off [] end rest a s =
     let n : off + length end + 1 ≡ off + length (end ++ 10 ∷ []) = omega (arith, length-append end (10 ∷ [])) in
     ap (scan (gap f) off) (append_assoc end (10 ∷ []) rest)
-    ∙ one f off end (10 ∷ rest) s.0 s.1 (λ e. let z : ◌≡◌ {A = ℕ} 0 1 = cc in omega arith)
+    ∙ one f off end (10 ∷ rest) s.0 s.1 (λ e. cc)
     ∙ ap (λ (o : ℕ). record { at = off; bytes = end; first = f } ∷ scan (gap true) o rest) n
 scan_line f off (w ∷ ws) end rest a s =
     let n : off + length w + 1 + length (line ws end) ≡ off + length (w ++ 32 ∷ line ws end) = omega (arith, length-append w (32 ∷ line ws end)) in
     ap (scan (gap f) off) (append_assoc w (32 ∷ line ws end) rest)
-    ∙ one f off w (32 ∷ (line ws end ++ rest)) a.0.0 a.0.1 (λ e. let z : ◌≡◌ {A = ℕ} 0 1 = cc in omega arith)
+    ∙ one f off w (32 ∷ (line ws end ++ rest)) a.0.0 a.0.1 (λ e. cc)
     ∙ ap (λ (l : List Token). record { at = off; bytes = w; first = f } ∷ l) (scan_line false (off + length w + 1) ws end rest a.1 s)
     ∙ ap (λ (o : ℕ). line_at off f (w ∷ ws) end ++ scan (gap true) o rest) n
 
@@ -75,7 +75,7 @@ pub last_line : (d : ℕ) (ws : List (List ℕ)) (end : List ℕ) → last d (li
 last_line d [] end = last_append d end (10 ∷ [])
 last_line d (w ∷ ws) end = last_append d w (32 ∷ line ws end) ∙ last_line 32 ws end
 
-pub not_first : (off : ℕ) (ws : List (List ℕ)) (end : List ℕ) → AllByRecursion (λ u. u.first ≡ false) (line_at off false ws end)
+not_first : (off : ℕ) (ws : List (List ℕ)) (end : List ℕ) → AllByRecursion (λ u. u.first ≡ false) (line_at off false ws end)
 not_first off [] end = (refl, tt)
 not_first off (w ∷ ws) end = (refl, not_first (off + length w + 1) ws end)
 
