@@ -10,18 +10,14 @@ ghost use Rattle.theory.specs.Running.{RunsDecide, NodesListed};
 
 // Eight formulas: verdict, splits, and what a memo saves. What is computed of them is what is defined: a computed decision is
 // a decision, and the computed nodes of a set are its nodes.
-pub fn examples_stand() -> u8
+pub fn examples_stand()
     ensures worked { Examples }
     ensures blank { RunsDecide verdict_among note_nothing }
     ensures keeping { RunsDecide verdict_among note_keeping }
     ensures nodes { NodesListed }
-{
-    0
-}
+{}
 
 // A text that is read, and the ledger after a few dealings.
-pub fn histories_stand() -> u8
+pub fn histories_stand()
     ensures { Histories }
-{
-    0
-}
+{}

@@ -9,16 +9,12 @@ ghost use Rattle.histories.specs.Laws.{HistoriesStand, PromisesKept, DealingsHon
 use memos::Memo;
 
 // A session that a history led to stands as the ledger of that history says.
-pub fn histories_stand<M: Memo>() -> u8
+pub fn histories_stand<M: Memo>()
     ensures { HistoriesStand M.held M.notes }
-{
-    0
-}
+{}
 
 // The promises are kept at every place of every history, and by one dealing more.
-pub fn promises_stand<M: Memo>() -> u8
+pub fn promises_stand<M: Memo>()
     ensures kept { PromisesKept M.held M.notes }
     ensures one_more { DealingsHonest M.held M.notes }
-{
-    0
-}
+{}

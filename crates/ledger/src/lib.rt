@@ -11,32 +11,24 @@ ghost use Rattle.ledger.specs.Laws.{PrefixTold, CallsEnter, FormulaStands};
 use memos::Memo;
 
 // The ledger follows from the calls and, of their answers, only from a load's 'table full'; its formula stands under its prefix.
-pub fn ledger_stands() -> u8
+pub fn ledger_stands()
     ensures prefix { PrefixTold }
     ensures calls { CallsEnter }
     ensures formula { FormulaStands }
-{
-    0
-}
+{}
 
 // A table that takes the sets has only nodes of weighed ones; one that cannot is full of them.
-pub fn making_stands() -> u8
+pub fn making_stands()
     ensures weighed { MakingWeighed }
     ensures crowded { MakingCrowded }
-{
-    0
-}
+{}
 
 // A load keeps what is promised of its answer.
-pub fn load_keeps_stands() -> u8
+pub fn load_keeps_stands()
     ensures { LoadKeeps }
-{
-    0
-}
+{}
 
 // A decision with any memo keeps what is promised of its answer.
-pub fn decision_keeps_stands<M: Memo>() -> u8
+pub fn decision_keeps_stands<M: Memo>()
     ensures { DecisionKeeps M.held M.notes }
-{
-    0
-}
+{}

@@ -18,79 +18,63 @@ ghost use Rattle.theory.specs.Walking.{SplitFirst, SomeCandidate, WalkEnds, Walk
 use memos::Memo;
 
 // Setting a literal true, by the four sets that it makes, is setting it clause by clause, and keeps the one form of a set.
-pub fn setting_stands() -> u8
+pub fn setting_stands()
     ensures same { SettingSame }
     ensures canonical { SettingCanonical }
-{
-    0
-}
+{}
 
 // The step of reducing is the first line that fits.
-pub fn lines_stand() -> u8
+pub fn lines_stand()
     ensures fit { LinesFit }
     ensures told { LinesTold }
     ensures counted { OccursCounted }
-{
-    0
-}
+{}
 
 // Blocks are longest runs of neighbours, and one look along the prefix finds the candidates.
-pub fn blocks_stand() -> u8
+pub fn blocks_stand()
     ensures run { BlocksRun }
     ensures scanned { CandidatesScanned }
-{
-    0
-}
+{}
 
 // Reducing keeps the value, ends, and leaves a set that no line fits.
-pub fn reducing_stands() -> u8
+pub fn reducing_stands()
     ensures lines { LinesKeep }
     ensures fall { LinesFall }
     ensures end { ReducingEnds }
     ensures keep { ReducingKeeps }
     ensures clean { ReducingCleans }
     ensures canonical { ReducingCanonical }
-{
-    0
-}
+{}
 
 // Any variable of the outermost block may be split first; the bare walk ends, and its verdict is the value.
-pub fn walk_stands() -> u8
+pub fn walk_stands()
     ensures first { SplitFirst }
     ensures candidate { SomeCandidate }
     ensures ends { WalkEnds }
     ensures right { WalkRight }
-{
-    0
-}
+{}
 
 // What a decision comes to, with any memo whose pairs are right, and what it comes to when it is repeated.
-pub fn decision_stands<M: Memo>() -> u8
+pub fn decision_stands<M: Memo>()
     ensures right { DecisionRight M.held M.notes }
     ensures blank { DecisionBlank M.held M.notes }
     ensures makes { DecisionMakes M.held M.notes }
     ensures settles { DecisionSettles M.held M.notes }
     ensures repeats { DecisionRepeats M.held M.notes }
-{
-    0
-}
+{}
 
 // The nodes of sets can be listed and counted.
-pub fn nodes_stand() -> u8
+pub fn nodes_stand()
     ensures listed { NodesListed }
     ensures counted { CrowdsCounted }
-{
-    0
-}
+{}
 
 // Decisions that are computed, with memos as plain lists, are decisions, and these lists note as the delivered memos do.
-pub fn runs_stand() -> u8
+pub fn runs_stand()
     ensures blank { RunsDecide verdict_among note_nothing }
     ensures keeping { RunsDecide verdict_among note_keeping }
     ensures slotted { RunsDecide verdict_among note_slotted }
     ensures blank_notes { BlankNoted }
     ensures keeping_notes { KeepingNoted }
     ensures slotted_notes { SlottedNoted }
-{
-    0
-}
+{}
