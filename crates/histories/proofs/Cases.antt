@@ -5,7 +5,7 @@ pub one_some : {A : Type 0} {x y : A} {o : Option A} → o ≡ Some x → o ≡ 
 one_some e f = cc
 
 pub none_some : {A : Type 0} {x : A} {o : Option A} → o ≡ None → o ≡ Some x → ⊥
-none_some e f = let z : ◌≡◌ {A = ℕ} 0 1 = cc in omega arith
+none_some e f = cc
 
 pub one_ok : {A E : Type 0} (x y : A) → ◌≡◌ {A = Result A E} (Ok x) (Ok y) → x ≡ y
 one_ok x y e = cc
@@ -14,4 +14,4 @@ pub one_err : {A E : Type 0} (x y : E) → ◌≡◌ {A = Result A E} (Err x) (E
 one_err x y e = cc
 
 pub ok_err : {A E : Type 0} (x : A) (y : E) → ◌≡◌ {A = Result A E} (Ok x) (Err y) → ⊥
-ok_err x y e = let z : ◌≡◌ {A = ℕ} 0 1 = cc in omega arith
+ok_err x y e = cc

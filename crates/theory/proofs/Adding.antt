@@ -37,7 +37,7 @@ pub record Added (t : Numbering) (xs : List (List (List ℕ))) (a : Attempt) : T
   pub short : a.done ≡ false → (length a.table ≡ capacity) × (x : List (List ℕ)) × In x xs × (In x a.table → ⊥)
 
 pub adds : (t : Numbering) (xs : List (List (List ℕ))) → Fit t → Added t xs (add t xs)
-adds t [] f = record { new = []; joined = sym (append-nil t); from = tt; fit = f; whole = λ _ x i. absurd i; short = λ e. absurd (let z : ◌≡◌ {A = Bool} true false = cc in grind (arith, nat_tests)) }
+adds t [] f = record { new = []; joined = sym (append-nil t); from = tt; fit = f; whole = λ _ x i. absurd i; short = λ e. absurd (cc) }
 adds t (x ∷ xs) f = go (listed x t) refl (ltb (length t) capacity) refl (λ u. adds u xs)
   where
     go : (b : Bool) → listed x t ≡ b → (c : Bool) → ltb (length t) capacity ≡ c → ((u : Numbering) → Fit u → Added u xs (add u xs)) →
@@ -76,7 +76,7 @@ adds t (x ∷ xs) f = go (listed x t) refl (ltb (length t) capacity) refl (λ u.
           joined = sym (append-nil t);
           from = tt;
           fit = f;
-          whole = λ d. absurd (let z : ◌≡◌ {A = Bool} true false = cc in grind (arith, nat_tests));
+          whole = λ d. absurd (cc);
           short = λ d. (let h : capacity ≤ length t = grind (arith, nat_tests) in omega (arith, w, h), x, inl refl, n);
         }
 
@@ -144,7 +144,7 @@ pub making : (t : Numbering) (sets : List (List (List ℕ))) → Fit t → Makin
 making t [] f = record {
   fit = f;
   makes = λ _. record { gains = gains_none t []; whole = λ s x i. absurd i; apart = f.apart; within = f.within };
-  stops = λ d. absurd (let z : ◌≡◌ {A = Bool} true false = cc in grind (arith, nat_tests));
+  stops = λ d. absurd (cc);
 }
 making t (s ∷ sets) f = go (add t (nodes s)) (adds t (nodes s) f).fit (one_made t s f) (one_full t s sets f) (λ u. making u sets)
   where
@@ -156,7 +156,7 @@ making t (s ∷ sets) f = go (add t (nodes s)) (adds t (nodes s) f).fit (one_mad
         at true e =
             let r = ih a.table fa in
             record { fit = r.fit; makes = λ d. makes_then (m e) (r.makes d); stops = λ d. stops_then (m e) (r.stops d) }
-        at false e = record { fit = fa; makes = λ d. absurd (let z : ◌≡◌ {A = Bool} true false = cc in grind (arith, nat_tests)); stops = l }
+        at false e = record { fit = fa; makes = λ d. absurd (cc); stops = l }
 
 -- the number of a set stands for it
 pub place_is : (s : List (List ℕ)) (t : Numbering) → In s t → nth t (place s t) ≡ Some s

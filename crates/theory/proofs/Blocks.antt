@@ -24,7 +24,7 @@ same_is q r e = grind (arith, nat_tests)
 
 -- the variables of the first block
 head_outermost : (qs : List Quantifier) (v k : ℕ) (s : List (List ℕ)) (b : Block) (bs : List Block) → blocks qs v ≡ b ∷ bs → In k b.variables → Outermost b.quantifier qs v k s
-head_outermost [] v k s b bs e h = absurd (let z : ◌≡◌ {A = ℕ} 0 1 = cc in omega arith)
+head_outermost [] v k s b bs e h = absurd (cc)
 head_outermost (q ∷ qs) v k s b bs e h = go (blocks qs (suc v)) refl e (head_outermost qs (suc v) k s)
   where
     go : (cs : List Block) → blocks qs (suc v) ≡ cs → ahead q v cs ≡ b ∷ bs →

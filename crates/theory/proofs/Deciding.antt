@@ -34,11 +34,11 @@ module _ (prefix : List Quantifier) where
   reduces_done (forces {s = s} {l} e m r) o f =
       let ih = reduces_done r o f in
       (ap (λ (x : Reduced). x.outcome) (at_forced s l e) ∙ ih.0, forced_gains s l e m.gains ih.1)
-  reduces_done (fills e m) o f = absurd (let z : ◌≡◌ {A = ℕ} 0 1 = cc in omega arith)
+  reduces_done (fills e m) o f = absurd (cc)
 
   pub reduces_full : {t u : Numbering} {s : List (List ℕ)} {a : Option Outcome} → ReducesIn prefix t s a u → a ≡ None → Gains t (reduce prefix s).made u × Overfull (reduce prefix s).made u
-  reduces_full (settles e) f = absurd (let z : ◌≡◌ {A = ℕ} 0 1 = cc in omega arith)
-  reduces_full (sticks e) f = absurd (let z : ◌≡◌ {A = ℕ} 0 1 = cc in omega arith)
+  reduces_full (settles e) f = absurd (cc)
+  reduces_full (sticks e) f = absurd (cc)
   reduces_full (forces {s = s} {l} e m r) f =
       let ih = reduces_full r f in
       let k : (reduce prefix s).made ≡ setting l s ++ (reduce prefix (assigned l s)).made = ap (λ (x : Reduced). x.made) (at_forced s l e) in
@@ -61,10 +61,10 @@ right_noted prefix t n r b before after right s v kept k w e = elim (kept k w e)
 
 -- endings that are not one another
 not_verdict : (f : Refusal) (b : Bool) → refused f ≡ verdict b → ⊥
-not_verdict f b e = let z : ◌≡◌ {A = ℕ} 0 1 = cc in omega arith
+not_verdict f b e = cc
 
 not_refused : (f : Refusal) (b : Bool) → verdict b ≡ refused f → ⊥
-not_refused f b e = let z : ◌≡◌ {A = ℕ} 0 1 = cc in omega arith
+not_refused f b e = cc
 
 module _ {M : Type 0} (held : M → Pairs) (notes : M → ℕ → Bool → M → Type 0) (law : (m : M) (n : ℕ) (b : Bool) (a : M) → notes m n b a → Kept (held m) n b (held a))
     (pick : List Candidate → ℕ) (picks : Picks pick) (prefix : List Quantifier) (allowance : ℕ) where
@@ -93,8 +93,8 @@ module _ {M : Type 0} (held : M → Pairs) (notes : M → ℕ → Bool → M →
     since = since;
     most = most;
     allowed = allowed;
-    deserved = λ e. absurd (let z : ◌≡◌ {A = ℕ} 0 1 = cc in omega arith);
-    deep = λ e. absurd (let z : ◌≡◌ {A = ℕ} 0 1 = cc in omega arith);
+    deserved = λ e. absurd (cc);
+    deep = λ e. absurd (cc);
     gains = gains;
     crowded = λ e. crowded;
   }
@@ -178,9 +178,9 @@ module _ {M : Type 0} (held : M → Pairs) (notes : M → ℕ → Bool → M →
           most = omega arith;
           allowed = λ h. h;
           deserved = λ _. (e, omega (arith, e, h));
-          deep = λ e. absurd (let z : ◌≡◌ {A = ℕ} 0 1 = cc in omega arith);
+          deep = λ e. absurd (cc);
           gains = bg.gains;
-          crowded = λ e. absurd (let z : ◌≡◌ {A = ℕ} 0 1 = cc in omega arith);
+          crowded = λ e. absurd (cc);
         },
         bg.right,
       )
@@ -194,10 +194,10 @@ module _ {M : Type 0} (held : M → Pairs) (notes : M → ℕ → Bool → M →
           since = omega arith;
           most = omega arith;
           allowed = λ h. h;
-          deserved = λ e. absurd (let z : ◌≡◌ {A = ℕ} 0 1 = cc in omega arith);
+          deserved = λ e. absurd (cc);
           deep = λ _. omega (arith, e, h);
           gains = bg.gains;
-          crowded = λ e. absurd (let z : ◌≡◌ {A = ℕ} 0 1 = cc in omega arith);
+          crowded = λ e. absurd (cc);
         },
         bg.right,
       )
@@ -324,13 +324,13 @@ module _ {M : Type 0} (held : M → Pairs) (notes : M → ℕ → Bool → M →
       let z = reduced_splits pick picks prefix s b (reduces_done prefix i (decided b) refl).0 in
       omega (arith, z)
   unaided empty (full_reducing i) c f = absurd (not_verdict full c f)
-  unaided empty (recalled {n = n} {m = m} i st k) c f = let e = empty m n in absurd (let z : ◌≡◌ {A = ℕ} 0 1 = cc in omega arith)
+  unaided empty (recalled {n = n} {m = m} i st k) c f = let e = empty m n in absurd (cc)
   unaided empty (by_allowance un e) c f = absurd (not_verdict spent c f)
   unaided empty (by_depth un l e) c f = absurd (not_verdict too_deep c f)
   unaided empty (full_first sp stop) c f = absurd (not_verdict full c f)
   unaided empty (refused_first {f = g} sp mk d) c f = absurd (not_verdict g c f)
   unaided empty (first_only {x = x} {m = m} {r = r} {b} sp mk d en nt) c f =
-      let right : (t : Numbering) (m : M) → Right prefix t (held m) = λ t m n b e. absurd (let y = empty m n in let z : ◌≡◌ {A = ℕ} 0 1 = cc in omega arith) in
+      let right : (t : Numbering) (m : M) → Right prefix t (held m) = λ t m n b e. absurd (let y = empty m n in cc) in
       let bg = begun x sp.unknown sp.chosen (right _ m) in
       let j = (judged d (right _ m)).0 in
       let h = bg.halves.only_splits (as_walked x r b true (j.right b refl) en) in
@@ -339,7 +339,7 @@ module _ {M : Type 0} (held : M → Pairs) (notes : M → ℕ → Bool → M →
   unaided empty (full_second sp mk d en stop) c f = absurd (not_verdict full c f)
   unaided empty (refused_second {f = g} sp mk d en mk2 d2) c f = absurd (not_verdict g c f)
   unaided empty (both_sides {x = x} {m = m} {r = r} {b} {c = e} sp mk d en mk2 d2 nt) c f =
-      let right : (t : Numbering) (m : M) → Right prefix t (held m) = λ t m n b e. absurd (let y = empty m n in let z : ◌≡◌ {A = ℕ} 0 1 = cc in omega arith) in
+      let right : (t : Numbering) (m : M) → Right prefix t (held m) = λ t m n b e. absurd (let y = empty m n in cc) in
       let bg = begun x sp.unknown sp.chosen (right _ m) in
       let j = (judged d (right _ m)).0 in
       let h = bg.halves.both_splits (as_walked x r b false (j.right b refl) en) in
@@ -353,5 +353,5 @@ module _ {M : Type 0} (held : M → Pairs) (notes : M → ℕ → Bool → M →
 
   pub decision_blank : DecisionBlank held notes
   decision_blank empty pick picks prefix allowance depth splits done before after memo kept s b d =
-      let right : Right prefix before (held memo) = λ n b e. absurd (let y = empty memo n in let z : ◌≡◌ {A = ℕ} 0 1 = cc in omega arith) in
+      let right : Right prefix before (held memo) = λ n b e. absurd (let y = empty memo n in cc) in
       ((judged held notes law pick picks prefix allowance d right).0.right b refl ∙ sym (bare_right pick picks prefix s), unaided held notes law pick picks prefix allowance empty d b refl)

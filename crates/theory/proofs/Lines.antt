@@ -104,7 +104,7 @@ module _ (prefix : List Quantifier) (s : List (List ℕ)) where
           let w = unit_within Universal l u in
           let n = lowest_none (units Universal) (2 * length prefix) 0 e l (omega arith) w in
           let y = unit_clause_is Universal l u in
-          absurd (let z : ◌≡◌ {A = Bool} true false = cc in grind (arith, nat_tests))
+          absurd (cc)
   told st (line_unit l h n u least) =
       at_existential (Some l) (no_empty s h) (some_clause s (l ∷ []) u.clause)
       (lowest_gone (units Universal) (2 * length prefix) 0 (λ m _. no_unit Universal m (n m)))
@@ -128,7 +128,7 @@ module _ (prefix : List Quantifier) (s : List (List ℕ)) where
       (let w = unit_within q m u in
       let n = lowest_none (units q) codes 0 e m (omega arith) w in
       let y = unit_clause_is q m u in
-      let z : ◌≡◌ {A = Bool} true false = cc in grind (arith, nat_tests)) in
+      cc) in
       cond_both (has_empty s) _ _ K (λ e. line_empty (empty_from s e)) (λ e.
       let ne : In [] s → ⊥ = λ i. (let t = empty_to s i in grind (arith, nat_tests)) in
       cond_both (none s) _ _ K (λ f. line_none (none_is s f)) (λ f.

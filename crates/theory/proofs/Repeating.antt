@@ -88,7 +88,7 @@ reduces_whole prefix (forces {s = s} {l} e m r) a f y x i n =
       | inl j ↦ in_grown (reduces_grows r) x (m.whole y x j n)
       | inr j ↦ reduces_whole prefix r a f y x j n
     ]
-reduces_whole prefix (fills e m) a f y x i n = absurd (let z : ◌≡◌ {A = ℕ} 0 1 = cc in omega arith)
+reduces_whole prefix (fills e m) a f y x i n = absurd (cc)
 
 -- what the table has already is not added
 nothing_new : {t u : Numbering} {sets : List (List (List ℕ))} → Makes t sets u → ((y x : List (List ℕ)) → In y sets → Node x y → In x t) → u ≡ t
@@ -106,8 +106,8 @@ nothing_new {t} {u} {sets} m h = go m.gains.added m.gains.joined m.gains.nodes
         absurd (twice t x added d (h a.0.0 x a.0.1 a.0.2))
 
 reduces_same : (prefix : List Quantifier) {t u : Numbering} {s : List (List ℕ)} {o : Option Outcome} → ReducesIn prefix t s o u → Whole prefix s t → (u ≡ t) × (o ≡ None → ⊥)
-reduces_same prefix (settles e) w = (refl, λ f. let z : ◌≡◌ {A = ℕ} 0 1 = cc in omega arith)
-reduces_same prefix (sticks e) w = (refl, λ f. let z : ◌≡◌ {A = ℕ} 0 1 = cc in omega arith)
+reduces_same prefix (settles e) w = (refl, λ f. cc)
+reduces_same prefix (sticks e) w = (refl, λ f. cc)
 reduces_same prefix (forces {s = s} {l} e m r) w =
     let here : (y x : List (List ℕ)) → In y (setting l s) → Node x y → In x _ = λ y x i n. w y x (rw (made_at prefix s l e) (in_append_left y (setting l s) (reduce prefix (assigned l s)).made i)) n in
     let same = nothing_new m here in
@@ -144,12 +144,12 @@ stands_one t m n r d e f g h =
     a.1 ∙ ap (λ (k : ℕ). suc (suc k)) i ∙ sym b.1
 
 stuck_some : {prefix : List Quantifier} {r : List (List ℕ)} {st : Step} → Rule prefix r st → st ≡ stuck → (none r ≡ false) × (has_empty r ≡ false)
-stuck_some (by_empty e) i = absurd (let z : ◌≡◌ {A = ℕ} 0 1 = cc in omega arith)
-stuck_some (by_none e) i = absurd (let z : ◌≡◌ {A = ℕ} 0 1 = cc in omega arith)
-stuck_some (by_unit_universal l u b) i = absurd (let z : ◌≡◌ {A = ℕ} 0 1 = cc in omega arith)
-stuck_some (by_unit l u b) i = absurd (let z : ◌≡◌ {A = ℕ} 0 1 = cc in omega arith)
-stuck_some (by_lone l u b) i = absurd (let z : ◌≡◌ {A = ℕ} 0 1 = cc in omega arith)
-stuck_some (by_lone_universal l u b) i = absurd (let z : ◌≡◌ {A = ℕ} 0 1 = cc in omega arith)
+stuck_some (by_empty e) i = absurd (cc)
+stuck_some (by_none e) i = absurd (cc)
+stuck_some (by_unit_universal l u b) i = absurd (cc)
+stuck_some (by_unit l u b) i = absurd (cc)
+stuck_some (by_lone l u b) i = absurd (cc)
+stuck_some (by_lone_universal l u b) i = absurd (cc)
 stuck_some (by_nothing e f a b c) i = (f, e)
 
 left_some : (prefix : List Quantifier) (s r : List (List ℕ)) → (reduce prefix s).outcome ≡ left r → (none r ≡ false) × (has_empty r ≡ false)
@@ -170,19 +170,19 @@ module _ {M : Type 0} (held : M → Pairs) (notes : M → ℕ → Bool → M →
   settled retains {prefix = prefix} d (by_reducing {s = s} {b = c} i) b e =
       let f : decided c ≡ decided b = cc in
       record { known = known_reduced ((reduces_done prefix i (decided c) refl).0 ∙ f); whole = reduces_whole prefix i (decided c) refl; apart = (reduces_grows i).apart d }
-  settled retains d (full_reducing i) b e = absurd (let z : ◌≡◌ {A = ℕ} 0 1 = cc in omega arith)
+  settled retains d (full_reducing i) b e = absurd (cc)
   settled retains {prefix = prefix} d (recalled {n = n} {r = r} {b = c} i st k) b e =
       let f : Some c ≡ Some b = cc in
       record { known = known_held r n (reduces_done prefix i (left r) refl).0 st (k ∙ f); whole = reduces_whole prefix i (left r) refl; apart = (reduces_grows i).apart d }
-  settled retains d (by_allowance un g) b e = absurd (let z : ◌≡◌ {A = ℕ} 0 1 = cc in omega arith)
-  settled retains d (by_depth un l g) b e = absurd (let z : ◌≡◌ {A = ℕ} 0 1 = cc in omega arith)
-  settled retains d (full_first sp stop) b e = absurd (let z : ◌≡◌ {A = ℕ} 0 1 = cc in omega arith)
-  settled retains d (refused_first sp mk h) b e = absurd (let z : ◌≡◌ {A = ℕ} 0 1 = cc in omega arith)
+  settled retains d (by_allowance un g) b e = absurd (cc)
+  settled retains d (by_depth un l g) b e = absurd (cc)
+  settled retains d (full_first sp stop) b e = absurd (cc)
+  settled retains d (refused_first sp mk h) b e = absurd (cc)
   settled retains {prefix = prefix} d (first_only {n = n} {m1 = k} {m2 = a} {b = c} sp mk h en nt) b e =
       let f : c ≡ b = cc in
       noted retains prefix d sp.unknown (grows_then (makes_grows mk) (decides_grows h)) (subst (λ (z : Bool). notes k n z a) f nt)
-  settled retains d (full_second sp mk h en stop) b e = absurd (let z : ◌≡◌ {A = ℕ} 0 1 = cc in omega arith)
-  settled retains d (refused_second sp mk h en mk2 h2) b e = absurd (let z : ◌≡◌ {A = ℕ} 0 1 = cc in omega arith)
+  settled retains d (full_second sp mk h en stop) b e = absurd (cc)
+  settled retains d (refused_second sp mk h en mk2 h2) b e = absurd (cc)
   settled retains {prefix = prefix} d (both_sides {n = n} {m2 = k} {m3 = a} {c = c} sp mk h en mk2 h2 nt) b e =
       let f : c ≡ b = cc in
       noted retains prefix d sp.unknown (grows_then (makes_grows mk) (grows_then (decides_grows h) (grows_then (makes_grows mk2) (decides_grows h2)))) (subst (λ (z : Bool). notes k n z a) f nt)
@@ -198,7 +198,7 @@ module _ {M : Type 0} (held : M → Pairs) (notes : M → ℕ → Bool → M →
       o = (reduces_done prefix un.reduced (left r) refl).0
 
       go : Known prefix s b (held m) t → ⊥
-      go (known_reduced e) = let z : ◌≡◌ {A = ℕ} 0 1 = cc (o, e) in omega arith
+      go (known_reduced e) = cc (o, e)
       go (known_held q k e f g) =
           let same : u ≡ t = (reduces_same prefix un.reduced st.whole).0 in
           let i : q ≡ r = let h : left q ≡ left r = sym e ∙ o in cc in
@@ -206,7 +206,7 @@ module _ {M : Type 0} (held : M → Pairs) (notes : M → ℕ → Bool → M →
           let j : k ≡ n = stands_one t k n r st.apart c.0 c.1 (subst (λ (z : List (List ℕ)). stands t k ≡ Some z) i f) (subst (λ (z : Numbering). stands z n ≡ Some r) same un.numbered) in
           let h : held m n ≡ Some b = subst (λ (z : ℕ). held m z ≡ Some b) j g in
           let y = un.absent in
-          let z : ◌≡◌ {A = ℕ} 0 1 = cc in omega arith
+          cc
 
   repeated : {pick : List Candidate → ℕ} {prefix : List Quantifier} {allowance depth splits done : ℕ} {t u : Numbering} {m a : M} {s : List (List ℕ)} {b : Bool} {e : Ending} →
       Settled prefix s b (held m) t → Decides held notes prefix pick allowance depth splits t m s e done u a → Same b splits t m e done u a
@@ -214,7 +214,7 @@ module _ {M : Type 0} (held : M → Pairs) (notes : M → ℕ → Bool → M →
     where
       agree : {pairs : Pairs} {t : Numbering} → Known prefix s b pairs t → c ≡ b
       agree (known_reduced e) = let f : decided c ≡ decided b = sym (reduces_done prefix i (decided c) refl).0 ∙ e in cc
-      agree (known_held q k e f g) = let o = (reduces_done prefix i (decided c) refl).0 in absurd (let z : ◌≡◌ {A = ℕ} 0 1 = cc in omega arith)
+      agree (known_held q k e f g) = let o = (reduces_done prefix i (decided c) refl).0 in absurd (cc)
   repeated {prefix = prefix} st (full_reducing i) = absurd ((reduces_same prefix i st.whole).1 refl)
   repeated {prefix = prefix} {b = b} st (recalled {n = n} {t} {u} {m} {s} {r} {b = c} i sn k) = record { ending = ap verdict (agree st.known); splits_same = refl; table_same = (reduces_same prefix i st.whole).0; memo_same = refl }
     where
@@ -222,7 +222,7 @@ module _ {M : Type 0} (held : M → Pairs) (notes : M → ℕ → Bool → M →
       o = (reduces_done prefix i (left r) refl).0
 
       agree : Known prefix s b (held m) t → c ≡ b
-      agree (known_reduced e) = absurd (let z : ◌≡◌ {A = ℕ} 0 1 = cc (o, e) in omega arith)
+      agree (known_reduced e) = absurd (cc (o, e))
       agree (known_held q j e f g) =
           let same : u ≡ t = (reduces_same prefix i st.whole).0 in
           let h : q ≡ r = let l : left q ≡ left r = sym e ∙ o in cc in

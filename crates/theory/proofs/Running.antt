@@ -53,9 +53,9 @@ module _ (prefix : List Quantifier) where
       go (settled b) e fall ih = record {
         reduces = settles e;
         fit = f;
-        left_has = λ r g. absurd (let z : ◌≡◌ {A = ℕ} 0 1 = cc in omega arith);
-        left_clean = λ r g. absurd (let z : ◌≡◌ {A = ℕ} 0 1 = cc in omega arith);
-        left_size = λ r g. absurd (let z : ◌≡◌ {A = ℕ} 0 1 = cc in omega arith);
+        left_has = λ r g. absurd (cc);
+        left_clean = λ r g. absurd (cc);
+        left_size = λ r g. absurd (cc);
       }
       go stuck e fall ih = record {
         reduces = sticks e;
@@ -84,9 +84,9 @@ module _ (prefix : List Quantifier) where
           at false d = record {
             reduces = fills e (m.stops d);
             fit = m.fit;
-            left_has = λ r g. absurd (let z : ◌≡◌ {A = ℕ} 0 1 = cc in omega arith);
-            left_clean = λ r g. absurd (let z : ◌≡◌ {A = ℕ} 0 1 = cc in omega arith);
-            left_size = λ r g. absurd (let z : ◌≡◌ {A = ℕ} 0 1 = cc in omega arith);
+            left_has = λ r g. absurd (cc);
+            left_clean = λ r g. absurd (cc);
+            left_size = λ r g. absurd (cc);
           }
 
 module _ {M : Type 0} (held : M → Pairs) (note : M → ℕ → Bool → M) (prefix : List Quantifier) (pick : List Candidate → ℕ) (allowance : ℕ) (picks : Picks pick) where
@@ -151,7 +151,7 @@ module _ {M : Type 0} (held : M → Pairs) (note : M → ℕ → Bool → M) (pr
     after_first (tried_ran {u = v} {a = a} mk ran) other = at a.ending refl
       where
         stays : (k : Refusal) → a.ending ≡ refused k → (e : Ending) → a.ending ≡ e → Ran depth splits t m s (noted held note prefix pick allowance n a e)
-        stays k g (verdict b) h = absurd (let z : ◌≡◌ {A = ℕ} 0 1 = cc in omega arith)
+        stays k g (verdict b) h = absurd (cc)
         stays k g (refused j) h = record {
           decides = subst (Ended depth splits t m s a) (sym g) (refused_first sp mk (subst (Ended (suc depth) (suc splits) v m (assigned (negative x) r) a) g ran.decides));
           fit = ran.fit;
@@ -159,7 +159,7 @@ module _ {M : Type 0} (held : M → Pairs) (note : M → ℕ → Bool → M) (pr
         }
 
         ended : (b : Bool) → a.ending ≡ verdict b → ends (outermost prefix r).quantifier b ≡ true → (e : Ending) → a.ending ≡ e → Ran depth splits t m s (noted held note prefix pick allowance n a e)
-        ended b g en (refused k) h = absurd (let z : ◌≡◌ {A = ℕ} 0 1 = cc in omega arith)
+        ended b g en (refused k) h = absurd (cc)
         ended b g en (verdict c) h =
             let i : b ≡ c = cc in
             record { decides = first_only sp mk (subst (Ended (suc depth) (suc splits) v m (assigned (negative x) r) a) h ran.decides) (rw (← i) en) refl; fit = ran.fit; allowed = ran.allowed }

@@ -65,7 +65,7 @@ head_quantifier q v (c ∷ cs) b bs e = go (same q c.quantifier) e
 
 -- of the first block, the variables that occur
 head_run : (prefix : List Quantifier) (v : ℕ) (s : List (List ℕ)) (b : Block) (bs : List Block) → blocks prefix v ≡ b ∷ bs → filter (λ x. present x s) b.variables ≡ neighbours b.quantifier prefix v s
-head_run [] v s b bs e = absurd (let z : ◌≡◌ {A = ℕ} 0 1 = cc in omega arith)
+head_run [] v s b bs e = absurd (cc)
 head_run (q ∷ prefix) v s b bs e =
     subst (λ (p : Quantifier). filter (λ x. present x s) b.variables ≡ neighbours p (q ∷ prefix) v s) (sym (head_quantifier q v (blocks prefix (suc v)) b bs e))
     (go prefix (blocks prefix (suc v)) refl e (head_run prefix (suc v) s) ∙ sym (ap (λ (t : Bool). cond t (cond (present v s) (v ∷ neighbours q prefix (suc v) s) (neighbours q prefix (suc v) s)) []) (same_self q)))
@@ -85,12 +85,12 @@ head_run (q ∷ prefix) v s b bs e =
     none_left (r ∷ p) f = absurd (some (blocks p (suc (suc v))) f)
       where
         some : (cs : List Block) → ahead r (suc v) cs ≡ [] → ⊥
-        some [] f = let z : ◌≡◌ {A = ℕ} 0 1 = cc in omega arith
+        some [] f = cc
         some (c ∷ cs) f = at (same r c.quantifier) f
           where
             at : (t : Bool) → cond t (record { quantifier = r; variables = suc v ∷ c.variables } ∷ cs) (record { quantifier = r; variables = suc v ∷ [] } ∷ c ∷ cs) ≡ [] → ⊥
-            at true f = let z : ◌≡◌ {A = ℕ} 0 1 = cc in omega arith
-            at false f = let z : ◌≡◌ {A = ℕ} 0 1 = cc in omega arith
+            at true f = cc
+            at false f = cc
 
     go : (p : List Quantifier) (cs : List Block) → blocks p (suc v) ≡ cs → ahead q v cs ≡ b ∷ bs →
         ((b : Block) (bs : List Block) → blocks p (suc v) ≡ b ∷ bs → filter (λ x. present x s) b.variables ≡ neighbours b.quantifier p (suc v) s) →

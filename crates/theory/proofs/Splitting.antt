@@ -58,9 +58,9 @@ halves q sets first second w a b e = go (ends q a.verdict) refl
           first_depth = omega arith;
           first_made = λ x i. rw m (in_append_right x sets (first ++ a.made) i);
           only_splits = λ _. n;
-          both_splits = λ g. absurd (let z : ◌≡◌ {A = Bool} true false = cc in grind (arith, nat_tests));
-          second_depth = λ g. absurd (let z : ◌≡◌ {A = Bool} true false = cc in grind (arith, nat_tests));
-          second_made = λ g. absurd (let z : ◌≡◌ {A = Bool} true false = cc in grind (arith, nat_tests));
+          both_splits = λ g. absurd (cc);
+          second_depth = λ g. absurd (cc);
+          second_made = λ g. absurd (cc);
         }
     go false t =
         let f : w ≡ record { verdict = b.verdict; splits = suc (a.splits + b.splits); depth = suc (larger a.depth b.depth); made = sets ++ ((first ++ a.made) ++ (second ++ b.made)) } = e ∙ ap (after sets) (split_goes q (after first a) (after second b) t) in
@@ -73,7 +73,7 @@ halves q sets first second w a b e = go (ends q a.verdict) refl
           first_splits = omega (arith, n);
           first_depth = rw d (omega (arith, l));
           first_made = λ x i. rw m (in_append_right x sets ((first ++ a.made) ++ (second ++ b.made)) (in_append_left x (first ++ a.made) (second ++ b.made) i));
-          only_splits = λ g. absurd (let z : ◌≡◌ {A = Bool} true false = cc in grind (arith, nat_tests));
+          only_splits = λ g. absurd (cc);
           both_splits = λ _. n;
           second_depth = λ _. rw d (omega (arith, r));
           second_made = λ _ x i. rw m (in_append_right x sets ((first ++ a.made) ++ (second ++ b.made)) (in_append_right x (first ++ a.made) (second ++ b.made) i));

@@ -57,12 +57,12 @@ unit_within : (prefix : List Quantifier) (s : List (List ℕ)) (l : ℕ) → Wit
 unit_within prefix s l h e = (all_in (AllByRecursion (λ x. x < 2 * length prefix)) s (l ∷ []) h (unit_from l s e)).0
 
 pub clean_from : (prefix : List Quantifier) (t : List (List ℕ)) → Within prefix t → {st : Step} → Rule prefix t st → st ≡ stuck → Clean t
-clean_from prefix t h (by_empty e) i = absurd (let z : ◌≡◌ {A = ℕ} 0 1 = cc in omega arith)
-clean_from prefix t h (by_none e) i = absurd (let z : ◌≡◌ {A = ℕ} 0 1 = cc in omega arith)
-clean_from prefix t h (by_unit_universal l u b) i = absurd (let z : ◌≡◌ {A = ℕ} 0 1 = cc in omega arith)
-clean_from prefix t h (by_unit l u b) i = absurd (let z : ◌≡◌ {A = ℕ} 0 1 = cc in omega arith)
-clean_from prefix t h (by_lone l u b) i = absurd (let z : ◌≡◌ {A = ℕ} 0 1 = cc in omega arith)
-clean_from prefix t h (by_lone_universal l u b) i = absurd (let z : ◌≡◌ {A = ℕ} 0 1 = cc in omega arith)
+clean_from prefix t h (by_empty e) i = absurd (cc)
+clean_from prefix t h (by_none e) i = absurd (cc)
+clean_from prefix t h (by_unit_universal l u b) i = absurd (cc)
+clean_from prefix t h (by_unit l u b) i = absurd (cc)
+clean_from prefix t h (by_lone l u b) i = absurd (cc)
+clean_from prefix t h (by_lone_universal l u b) i = absurd (cc)
 clean_from prefix t h (by_nothing e f a b c) i = record {
   some_clause = f;
   no_empty = e;
