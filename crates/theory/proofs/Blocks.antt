@@ -17,7 +17,7 @@ use Rattle.theory.proofs.Terms.{absent, Outermost}
 use Rattle.theory.proofs.Rules.{value_first, value_absent}
 use Rattle.sets.proofs.Words.{in_kept}
 use Rattle.theory.proofs.Setting.{value_assigned_set}
-use Rattle.theory.proofs.Reducing.{size_falls}
+use Rattle.theory.proofs.Keeping.{size_falls}
 
 pub same_is : (q r : Quantifier) → same q r ≡ true → q ≡ r
 same_is q r e = grind (arith, nat_tests)

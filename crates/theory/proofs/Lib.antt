@@ -4,6 +4,7 @@ pub mod Truths
 pub mod Rules
 pub mod Setting
 pub mod Reducing
+pub mod Keeping
 pub mod Reduces
 pub mod Blocks
 pub mod Walking

@@ -156,3 +156,22 @@ lines_told prefix s st l = told prefix s st l
 pub occurs_counted : OccursCounted
 occurs_counted l [] = (λ e. grind (arith, nat_tests), λ h. absurd (omega arith))
 occurs_counted l (c ∷ s) = let ih = occurs_counted l s in (λ e. grind (arith, nat_tests), λ h. grind (arith, nat_tests))
+
+-- what is known where no line fits
+pub record Stuck (prefix : List Quantifier) (s : List (List ℕ)) : Type 0 where
+  pub some_clause : none s ≡ false
+  pub no_empty : has_empty s ≡ false
+  pub no_unit : (l : ℕ) (q : Quantifier) → UnitClause q prefix s l → ⊥
+  pub no_lone : (l : ℕ) → l < 2 * length prefix → lone l s ≡ false
+
+stuck_line : {prefix : List Quantifier} {s : List (List ℕ)} {st : Step} → Line prefix s st → st ≡ stuck → Stuck prefix s
+stuck_line (line_empty _) e = absurd (cc)
+stuck_line (line_none _) e = absurd (cc)
+stuck_line (line_universal _ _ _) e = absurd (cc)
+stuck_line (line_unit _ _ _ _ _) e = absurd (cc)
+stuck_line (line_lone _ _ _ _ _ _) e = absurd (cc)
+stuck_line (line_lone_universal _ _ _ _ _ _) e = absurd (cc)
+stuck_line {s = s} (line_stuck ne nn nu nl) e = record { some_clause = not_none s nn; no_empty = no_empty s ne; no_unit = nu; no_lone = nl }
+
+pub at_stuck : (prefix : List Quantifier) (s : List (List ℕ)) → step prefix s ≡ stuck → Stuck prefix s
+at_stuck prefix s e = stuck_line (lines_fit prefix s) e

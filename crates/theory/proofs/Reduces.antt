@@ -4,7 +4,7 @@ use Rattle.qbf.specs.declared.Quantifier.{Quantifier}
 use Rattle.qbf.specs.Clauses.{Canonical, assigned, setting}
 use Rattle.qbf.specs.Value.{value}
 use Rattle.qbf.specs.Reduce.{Step, settled, forced, stuck, step, Outcome, decided, left, Reduced, resume, reduce_within, size, reduce}
-use Rattle.theory.proofs.Reducing.{step_keeps, Falls, step_falls}
+use Rattle.theory.proofs.Keeping.{step_keeps, Falls, step_falls}
 use Rattle.sets.proofs.Forms.{forms_stay}
 
 -- the set is reduced to an outcome, by way of the sets made

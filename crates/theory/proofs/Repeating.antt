@@ -14,7 +14,7 @@ use Rattle.qbf.specs.Numbering.{Numbering, nth, stands, Among, Makes, Stops}
 use Rattle.qbf.specs.Decision.{Ending, verdict, ReducesIn, settles, sticks, forces, fills, Unknown, Splits, Decides, by_reducing, full_reducing, recalled, by_allowance, by_depth, full_first, refused_first, first_only, full_second, refused_second, both_sides}
 use Rattle.theory.specs.Repeating.{Known, known_reduced, known_held, Settled, DecisionSettles, Same, DecisionRepeats}
 use Rattle.sets.proofs.Words.{all_in}
-use Rattle.theory.proofs.Reducing.{Rule, by_empty, by_none, by_unit_universal, by_unit, by_lone, by_lone_universal, by_nothing, step_rule}
+use Rattle.theory.proofs.Lines.{at_stuck}
 use Rattle.theory.proofs.Reduces.{reduce_unfolds, reduced_to, reduces_stuck}
 use Rattle.theory.proofs.Tables.{in_append, in_append_left, in_append_right, nth_append}
 use Rattle.theory.proofs.Deciding.{at_forced, reduces_done}
@@ -143,17 +143,8 @@ stands_one t m n r d e f g h =
     let i = nth_one t a.0 b.0 r d a.2 b.2 in
     a.1 ∙ ap (λ (k : ℕ). suc (suc k)) i ∙ sym b.1
 
-stuck_some : {prefix : List Quantifier} {r : List (List ℕ)} {st : Step} → Rule prefix r st → st ≡ stuck → (none r ≡ false) × (has_empty r ≡ false)
-stuck_some (by_empty e) i = absurd (cc)
-stuck_some (by_none e) i = absurd (cc)
-stuck_some (by_unit_universal l u b) i = absurd (cc)
-stuck_some (by_unit l u b) i = absurd (cc)
-stuck_some (by_lone l u b) i = absurd (cc)
-stuck_some (by_lone_universal l u b) i = absurd (cc)
-stuck_some (by_nothing e f a b c) i = (f, e)
-
 left_some : (prefix : List Quantifier) (s r : List (List ℕ)) → (reduce prefix s).outcome ≡ left r → (none r ≡ false) × (has_empty r ≡ false)
-left_some prefix s r e = stuck_some (step_rule prefix r) (reduces_stuck prefix (reduced_to prefix s (left r) e))
+left_some prefix s r e = let st = at_stuck prefix r (reduces_stuck prefix (reduced_to prefix s (left r) e)) in (st.some_clause, st.no_empty)
 
 module _ {M : Type 0} (held : M → Pairs) (notes : M → ℕ → Bool → M → Type 0) where
   -- a verdict of a split, noted

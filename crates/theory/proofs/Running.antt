@@ -17,9 +17,9 @@ use Rattle.qbf.specs.Decision.{Refusal, full, spent, too_deep, Ending, verdict, 
 use Rattle.qbf.specs.Run.{make, number, Lowered, lower_by, lower, Standing, try, noted, second, chosen, unknown, on_recall, on_outcome, run_within}
 use Rattle.theory.specs.Reducing.{Clean}
 use Rattle.theory.specs.Running.{RunsDecide}
-use Rattle.theory.proofs.Reducing.{Falls, step_rule, step_falls}
+use Rattle.theory.proofs.Keeping.{Falls, step_falls}
 use Rattle.theory.proofs.Blocks.{picked_falls}
-use Rattle.theory.proofs.Stands.{within_assigned, clean_from, some_candidate}
+use Rattle.theory.proofs.Stands.{within_assigned, clean_stuck, some_candidate}
 use Rattle.theory.proofs.Adding.{Fit, Making, making, place_is}
 
 -- the table has the nodes of the set
@@ -61,7 +61,7 @@ module _ (prefix : List Quantifier) where
         reduces = sticks e;
         fit = f;
         left_has = λ r g. let i : s ≡ r = cc in rw (← i) k;
-        left_clean = λ r g. let i : s ≡ r = cc in rw (← i) (w, clean_from prefix s w (step_rule prefix s) e);
+        left_clean = λ r g. let i : s ≡ r = cc in rw (← i) (w, clean_stuck prefix s w e);
         left_size = λ r g. let i : s ≡ r = cc in rw (← i) (omega arith);
       }
       go (forced l) e fall ih = at (make t (setting l s)).done refl

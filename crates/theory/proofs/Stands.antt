@@ -7,16 +7,19 @@ use Rattle.std.proofs.ByRecursion.{all_kept_by, All-map, All-weaker}
 use Rattle.qbf.specs.declared.Quantifier.{Quantifier}
 use Rattle.qbf.specs.declared.Candidate.{Candidate}
 use Rattle.qbf.specs.Literals.{complement, positive, negative}
-use Rattle.qbf.specs.Lists.{mem, without}
+use Rattle.qbf.specs.declared.Quantifier.TheVariants.{Existential, Universal}
+use Rattle.qbf.specs.Lists.{mem, without, In}
 use Rattle.qbf.specs.Clauses.{holding, lacking, taken_out, assigned}
 use Rattle.qbf.specs.Value.{none}
-use Rattle.qbf.specs.Reduce.{Within, has_empty, has_unit, occurs, lone, Step, stuck, decided, left}
+use Rattle.qbf.specs.Reduce.{binds, Within, has_empty, has_unit, occurs, lone, stuck, step, decided, left}
 use Rattle.qbf.specs.Walk.{blocks, present, some_present, candidates}
 use Rattle.theory.specs.Reducing.{LinesKeep, LinesFall, ReducingKeeps, ReducingCleans, ReducingCanonical, Clean}
 use Rattle.theory.specs.Walking.{SomeCandidate}
 use Rattle.sets.proofs.Words.{mem_in, all_in, all_without}
 use Rattle.sets.proofs.Order.{all_union}
-use Rattle.theory.proofs.Reducing.{Rule, by_empty, by_none, by_unit_universal, by_unit, by_lone, by_lone_universal, by_nothing, step_rule, binds_one, step_keeps, step_falls, unit_from, occurs_in}
+use Rattle.theory.proofs.Reducing.{binds_one, unit_from, occurs_in}
+use Rattle.theory.proofs.Lines.{Stuck, at_stuck}
+use Rattle.theory.proofs.Keeping.{step_keeps, step_falls}
 use Rattle.theory.proofs.Reduces.{Reduces, r_stuck, r_forced, reduced_to, reduces_keeps, reduces_stuck, reduces_canonical}
 use Rattle.theory.proofs.Blocks.{none_ahead, none_from}
 
@@ -53,39 +56,33 @@ occurs_within prefix s l h e =
     let r = occurs_in l s e in
     all_in (λ x. x < 2 * length prefix) r.0 l (all_in (AllByRecursion (λ x. x < 2 * length prefix)) s r.0 h r.1) (mem_in l r.0 r.2)
 
-unit_within : (prefix : List Quantifier) (s : List (List ℕ)) (l : ℕ) → Within prefix s → has_unit l s ≡ true → l < 2 * length prefix
-unit_within prefix s l h e = (all_in (AllByRecursion (λ x. x < 2 * length prefix)) s (l ∷ []) h (unit_from l s e)).0
-
-pub clean_from : (prefix : List Quantifier) (t : List (List ℕ)) → Within prefix t → {st : Step} → Rule prefix t st → st ≡ stuck → Clean t
-clean_from prefix t h (by_empty e) i = absurd (cc)
-clean_from prefix t h (by_none e) i = absurd (cc)
-clean_from prefix t h (by_unit_universal l u b) i = absurd (cc)
-clean_from prefix t h (by_unit l u b) i = absurd (cc)
-clean_from prefix t h (by_lone l u b) i = absurd (cc)
-clean_from prefix t h (by_lone_universal l u b) i = absurd (cc)
-clean_from prefix t h (by_nothing e f a b c) i = record {
-  some_clause = f;
-  no_empty = e;
-  no_unit = λ l. elim (cases_Bool (has_unit l t)) [
-    | inl u ↦
-        let n = unit_within prefix t l h u in
-        let x = a l n in
-        let y = b l n in
-        let z = binds_one prefix (l / 2) (omega arith) in
-        grind (arith, nat_tests)
-    | inr u ↦ u
-  ];
-  no_lone = λ l. elim (cases_Bool (lone l t)) [
-    | inl u ↦ let n = occurs_within prefix t l h (grind (arith, nat_tests)) in c l n
-    | inr u ↦ u
-  ];
-}
+-- a set over the prefix that no line fits
+pub clean_stuck : (prefix : List Quantifier) (t : List (List ℕ)) → Within prefix t → step prefix t ≡ stuck → Clean t
+clean_stuck prefix t h e =
+    let st = at_stuck prefix t e in
+    record {
+      some_clause = st.some_clause;
+      no_empty = st.no_empty;
+      no_unit = λ l. elim (cases_Bool (has_unit l t)) [ inl u ↦ absurd (bound st l (unit_from l t u)) | inr u ↦ u ];
+      no_lone = λ l. elim (cases_Bool (lone l t)) [
+        | inl u ↦ let n = occurs_within prefix t l h (grind (arith, nat_tests)) in st.no_lone l n
+        | inr u ↦ u
+      ];
+    }
+  where
+    bound : Stuck prefix t → (l : ℕ) → In (l ∷ []) t → ⊥
+    bound st l i =
+        let n = (all_in (AllByRecursion (λ x. x < 2 * length prefix)) t (l ∷ []) h i).0 in
+        elim (cases_Bool (binds Existential prefix (l / 2))) [
+          | inl b ↦ st.no_unit l Existential (record { clause = i; bound = b })
+          | inr b ↦ st.no_unit l Universal (record { clause = i; bound = binds_one prefix (l / 2) (omega arith) b })
+        ]
 
 pub reducing_cleans : ReducingCleans
 reducing_cleans prefix s t h e =
     let r = reduced_to prefix s (left t) e in
     let w = reduces_within r h in
-    (w, clean_from prefix t w (step_rule prefix t) (reduces_stuck prefix r))
+    (w, clean_stuck prefix t w (reduces_stuck prefix r))
 
 -- if no block has a variable that occurs, no variable of the prefix does
 none_absent : (qs : List Quantifier) (v x : ℕ) (s : List (List ℕ)) → AllByRecursion (λ b. some_present b.variables s ≡ false) (blocks qs v) → v ≤ x → x < v + length qs → present x s ≡ false
