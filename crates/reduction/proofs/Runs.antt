@@ -12,8 +12,7 @@ use Rattle.table.specs.declared.table.Table.{Table}
 use Rattle.table.specs.Tables.{clauses}
 use Rattle.table.proofs.Tables.{ends_stand}
 use Rattle.theory.specs.Reducing.{Clean}
-use Rattle.theory.proofs.Reducing.{step_rule}
-use Rattle.theory.proofs.Stands.{lines_fall, clean_from, some_candidate}
+use Rattle.theory.proofs.Stands.{lines_fall, clean_stuck, some_candidate}
 use Rattle.reduction.specs.Numbered.{sets_of, Ready, Kept}
 use Rattle.reduction.specs.Outcomes.{Splittable, Assigned}
 
@@ -58,7 +57,7 @@ module _ (prefix : List Quantifier) (t : Table) (n : ℕ) (u : Table) (m : ℕ) 
 -- a set that no line fits can be split
 pub splittable : (prefix : List Quantifier) (t : Table) (n : ℕ) → Ready prefix t n → stuck ≡ step prefix (clauses t n) → Splittable prefix t n
 splittable prefix t n r e =
-    let clean = clean_from prefix (clauses t n) r.within (step_rule prefix (clauses t n)) (sym e) in
+    let clean = clean_stuck prefix (clauses t n) r.within (sym e) in
     record { ready = r; node = node clean; shown = some_candidate prefix (clauses t n) r.within clean }
   where
     node : Clean (clauses t n) → 2 ≤ n

@@ -23,10 +23,12 @@ module _ (prefix : List Quantifier) where
   pub at_forced : (s : List (List ℕ)) (l : ℕ) → step prefix s ≡ forced l → reduce prefix s ≡ record { outcome = (reduce prefix (assigned l s)).outcome; made = setting l s ++ (reduce prefix (assigned l s)).made }
   at_forced s l e = reduce_unfolds prefix s ∙ ap (resume (reduce prefix) s) e
 
+  pub forced_made : (s : List (List ℕ)) (l : ℕ) → step prefix s ≡ forced l → (reduce prefix s).made ≡ setting l s ++ (reduce prefix (assigned l s)).made
+  forced_made s l e = ap (λ (x : Reduced). x.made) (at_forced s l e)
+
   forced_gains : {t u v : Numbering} (s : List (List ℕ)) (l : ℕ) → step prefix s ≡ forced l → Gains t (setting l s) u → Gains u (reduce prefix (assigned l s)).made v → Gains t (reduce prefix s).made v
   forced_gains s l e g h =
-      let m : (reduce prefix s).made ≡ setting l s ++ (reduce prefix (assigned l s)).made = ap (λ (x : Reduced). x.made) (at_forced s l e) in
-      rw m (gains_then (gains_more (λ x. in_append_left x (setting l s) (reduce prefix (assigned l s)).made) g) (gains_more (λ x. in_append_right x (setting l s) (reduce prefix (assigned l s)).made) h))
+      rw (forced_made s l e) (gains_then (gains_more (λ x. in_append_left x (setting l s) (reduce prefix (assigned l s)).made) g) (gains_more (λ x. in_append_right x (setting l s) (reduce prefix (assigned l s)).made) h))
 
   pub reduces_done : {t u : Numbering} {s : List (List ℕ)} {a : Option Outcome} → ReducesIn prefix t s a u → (o : Outcome) → a ≡ Some o → ((reduce prefix s).outcome ≡ o) × Gains t (reduce prefix s).made u
   reduces_done (settles {t} {s} {b} e) o f = (ap (λ (x : Reduced). x.outcome) (reduce_unfolds prefix s ∙ ap (resume (reduce prefix) s) e) ∙ (cc), gains_none t _)
@@ -41,12 +43,10 @@ module _ (prefix : List Quantifier) where
   reduces_full (sticks e) f = absurd (cc)
   reduces_full (forces {s = s} {l} e m r) f =
       let ih = reduces_full r f in
-      let k : (reduce prefix s).made ≡ setting l s ++ (reduce prefix (assigned l s)).made = ap (λ (x : Reduced). x.made) (at_forced s l e) in
-      (forced_gains s l e m.gains ih.0, rw k (overfull_more (λ x. in_append_right x (setting l s) (reduce prefix (assigned l s)).made) ih.1))
+      (forced_gains s l e m.gains ih.0, rw (forced_made s l e) (overfull_more (λ x. in_append_right x (setting l s) (reduce prefix (assigned l s)).made) ih.1))
   reduces_full (fills {u = u} {s = s} {l} e m) f =
       let g = stops_gains m in
-      let k : (reduce prefix s).made ≡ setting l s ++ (reduce prefix (assigned l s)).made = ap (λ (x : Reduced). x.made) (at_forced s l e) in
-      (forced_gains s l e g.0 (gains_none u _), rw k (overfull_more (λ x. in_append_left x (setting l s) (reduce prefix (assigned l s)).made) g.1))
+      (forced_gains s l e g.0 (gains_none u _), rw (forced_made s l e) (overfull_more (λ x. in_append_left x (setting l s) (reduce prefix (assigned l s)).made) g.1))
 
 -- right pairs stay right
 pub right_later : (prefix : List Quantifier) {t u : Numbering} {sets : List (List (List ℕ))} (pairs : Pairs) → Right prefix t pairs → Gains t sets u → Right prefix u pairs
@@ -58,13 +58,6 @@ right_noted prefix t n r b before after right s v kept k w e = elim (kept k w e)
   | inl same ↦ (r, rw same.0 s, v ∙ sym same.1)
   | inr other ↦ right k w other.1
 ]
-
--- endings that are not one another
-not_verdict : (f : Refusal) (b : Bool) → refused f ≡ verdict b → ⊥
-not_verdict f b e = cc
-
-not_refused : (f : Refusal) (b : Bool) → verdict b ≡ refused f → ⊥
-not_refused f b e = cc
 
 module _ {M : Type 0} (held : M → Pairs) (notes : M → ℕ → Bool → M → Type 0) (law : (m : M) (n : ℕ) (b : Bool) (a : M) → notes m n b a → Kept (held m) n b (held a))
     (pick : List Candidate → ℕ) (picks : Picks pick) (prefix : List Quantifier) (allowance : ℕ) where
@@ -79,17 +72,17 @@ module _ {M : Type 0} (held : M → Pairs) (notes : M → ℕ → Bool → M →
     since = since;
     most = most;
     allowed = allowed;
-    deserved = λ e. absurd (not_refused spent b e);
-    deep = λ e. absurd (not_refused too_deep b e);
+    deserved = λ e. absurd (cc);
+    deep = λ e. absurd (cc);
     gains = gains;
-    crowded = λ e. absurd (not_refused full b e);
+    crowded = λ e. absurd (cc);
   }
 
   -- and a full table
   full_judged : {depth splits done : ℕ} {t u : Numbering} {s : List (List ℕ)} →
       splits ≤ done → done ≤ splits + (walked s).splits → (splits ≤ allowance → done ≤ allowance) → Gains t (walked s).made u → Overfull (walked s).made u → Judged pick prefix allowance depth splits t s (refused full) done u
   full_judged since most allowed gains crowded = record {
-    right = λ c e. absurd (not_verdict full c e);
+    right = λ c e. absurd (cc);
     since = since;
     most = most;
     allowed = allowed;
@@ -173,7 +166,7 @@ module _ {M : Type 0} (held : M → Pairs) (notes : M → ℕ → Bool → M →
       let bg = begun (picked pick (candidates prefix r)) un refl right in
       let h = bg.halves.first_splits in (
         record {
-          right = λ c e. absurd (not_verdict spent c e);
+          right = λ c e. absurd (cc);
           since = omega arith;
           most = omega arith;
           allowed = λ h. h;
@@ -190,7 +183,7 @@ module _ {M : Type 0} (held : M → Pairs) (notes : M → ℕ → Bool → M →
       let bg = begun (picked pick (candidates prefix r)) un refl right in
       let h = bg.halves.first_depth in (
         record {
-          right = λ c e. absurd (not_verdict too_deep c e);
+          right = λ c e. absurd (cc);
           since = omega arith;
           most = omega arith;
           allowed = λ h. h;
@@ -221,7 +214,7 @@ module _ {M : Type 0} (held : M → Pairs) (notes : M → ℕ → Bool → M →
           let h = bg.halves.first_splits in
           let k = bg.halves.first_depth in (
             record {
-              right = λ c e. absurd (not_verdict f c e);
+              right = λ c e. absurd (cc);
               since = omega (arith, j.since);
               most = omega (arith, j.most, h);
               allowed = λ _. j.allowed (omega arith);
@@ -269,7 +262,7 @@ module _ {M : Type 0} (held : M → Pairs) (notes : M → ℕ → Bool → M →
               let h = bg.halves.both_splits goes in
               let k = bg.halves.second_depth goes in (
                 record {
-                  right = λ c e. absurd (not_verdict f c e);
+                  right = λ c e. absurd (cc);
                   since = omega (arith, first.since, i.since);
                   most = omega (arith, first.most, i.most, h);
                   allowed = λ _. i.allowed (first.allowed (omega arith));
@@ -323,12 +316,12 @@ module _ {M : Type 0} (held : M → Pairs) (notes : M → ℕ → Bool → M →
   unaided empty (by_reducing {s = s} {b} i) c f =
       let z = reduced_splits pick picks prefix s b (reduces_done prefix i (decided b) refl).0 in
       omega (arith, z)
-  unaided empty (full_reducing i) c f = absurd (not_verdict full c f)
+  unaided empty (full_reducing i) c f = absurd (cc)
   unaided empty (recalled {n = n} {m = m} i st k) c f = let e = empty m n in absurd (cc)
-  unaided empty (by_allowance un e) c f = absurd (not_verdict spent c f)
-  unaided empty (by_depth un l e) c f = absurd (not_verdict too_deep c f)
-  unaided empty (full_first sp stop) c f = absurd (not_verdict full c f)
-  unaided empty (refused_first {f = g} sp mk d) c f = absurd (not_verdict g c f)
+  unaided empty (by_allowance un e) c f = absurd (cc)
+  unaided empty (by_depth un l e) c f = absurd (cc)
+  unaided empty (full_first sp stop) c f = absurd (cc)
+  unaided empty (refused_first {f = g} sp mk d) c f = absurd (cc)
   unaided empty (first_only {x = x} {m = m} {r = r} {b} sp mk d en nt) c f =
       let right : (t : Numbering) (m : M) → Right prefix t (held m) = λ t m n b e. absurd (let y = empty m n in cc) in
       let bg = begun x sp.unknown sp.chosen (right _ m) in
@@ -336,8 +329,8 @@ module _ {M : Type 0} (held : M → Pairs) (notes : M → ℕ → Bool → M →
       let h = bg.halves.only_splits (as_walked x r b true (j.right b refl) en) in
       let one = unaided empty d b refl in
       omega (arith, h, one)
-  unaided empty (full_second sp mk d en stop) c f = absurd (not_verdict full c f)
-  unaided empty (refused_second {f = g} sp mk d en mk2 d2) c f = absurd (not_verdict g c f)
+  unaided empty (full_second sp mk d en stop) c f = absurd (cc)
+  unaided empty (refused_second {f = g} sp mk d en mk2 d2) c f = absurd (cc)
   unaided empty (both_sides {x = x} {m = m} {r = r} {b} {c = e} sp mk d en mk2 d2 nt) c f =
       let right : (t : Numbering) (m : M) → Right prefix t (held m) = λ t m n b e. absurd (let y = empty m n in cc) in
       let bg = begun x sp.unknown sp.chosen (right _ m) in

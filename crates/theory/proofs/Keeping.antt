@@ -1,14 +1,13 @@
 -- Each line of reducing keeps the value, and a setting takes a literal out.
-use Rattle.std.proofs.Common.{◌≡◌, ℕ, zero, suc, ◌+◌, ◌*◌, ◌/◌, ◌<◌, ◌≤◌, Bool, true, false, ◌&&◌, ◌||◌, List, [], ◌∷◌, length, Some, None, Option, sym, refl, ◌∙◌, inl, inr, arith}
+use Rattle.std.proofs.Common.{◌≡◌, ℕ, zero, suc, ◌+◌, ◌/◌, ◌<◌, ◌≤◌, true, ◌||◌, List, [], ◌∷◌, length, sym, refl, ◌∙◌, inl, inr, arith}
 use Rattle.std.proofs.lemmas.Bool.Decides.{nat_tests}
-use Rattle.std.proofs.lemmas.Bool.{cases_eq, cases_Bool, cond_both}
 use Rattle.qbf.specs.declared.Quantifier.{Quantifier}
 use Rattle.qbf.specs.declared.Quantifier.TheVariants.{Existential, Universal}
 use Rattle.qbf.specs.Literals.{complement}
-use Rattle.qbf.specs.Lists.{mem, without, In}
+use Rattle.qbf.specs.Lists.{mem, without}
 use Rattle.qbf.specs.Clauses.{weave, union, lacking, taken_out, assigned}
-use Rattle.qbf.specs.Value.{assign, none, value}
-use Rattle.qbf.specs.Reduce.{binds, has_empty, has_unit, occurs, lone, lowest, Step, settled, forced, stuck, on_some, step, size}
+use Rattle.qbf.specs.Value.{assign, value}
+use Rattle.qbf.specs.Reduce.{binds, occurs, Step, settled, forced, stuck, step, size}
 use Rattle.theory.specs.Lines.{Line, line_empty, line_none, line_universal, line_unit, line_lone, line_lone_universal, line_stuck}
 use Rattle.theory.proofs.Terms.{Bound}
 use Rattle.theory.proofs.Reducing.{in_occurs}

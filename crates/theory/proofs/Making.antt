@@ -1,12 +1,12 @@
 -- The sets that a decision makes are sets that the bare walk makes.
-use Rattle.std.proofs.Common.{◌≡◌, ℕ, Bool, false, List, ◌++◌, Option, refl, ap, inl, inr}
+use Rattle.std.proofs.Common.{◌≡◌, ℕ, Bool, false, List, ◌++◌, Option, refl, inl, inr}
 use Rattle.qbf.specs.declared.Quantifier.{Quantifier}
 use Rattle.qbf.specs.declared.Candidate.{Candidate}
 use Rattle.qbf.specs.Literals.{positive, negative}
 use Rattle.qbf.specs.Memo.{Pairs, Kept}
 use Rattle.qbf.specs.Chooser.{Picks}
 use Rattle.qbf.specs.Clauses.{assigned, setting}
-use Rattle.qbf.specs.Reduce.{Outcome, Reduced, reduce}
+use Rattle.qbf.specs.Reduce.{Outcome, reduce}
 use Rattle.qbf.specs.Walk.{outermost, ends, bare}
 use Rattle.qbf.specs.Numbering.{Numbering, Stops}
 use Rattle.qbf.specs.Decision.{Ending, ReducesIn, settles, sticks, forces, fills, Decides, by_reducing, full_reducing, recalled, by_allowance, by_depth, full_first, refused_first, first_only, full_second, refused_second, both_sides, Right}
@@ -14,7 +14,7 @@ use Rattle.theory.specs.Making.{stopped, reducing, deciding, DecisionMakes}
 use Rattle.theory.proofs.Terms.{Subset}
 use Rattle.theory.proofs.Tables.{in_append, in_append_left, in_append_right, stops_some}
 use Rattle.theory.proofs.Splitting.{reduced_made}
-use Rattle.theory.proofs.Deciding.{at_forced, right_later, Begun, begun, as_walked, judged}
+use Rattle.theory.proofs.Deciding.{forced_made, right_later, Begun, begun, as_walked, judged}
 
 -- a subset as a record, so that its lists are found
 pub record Contained (xs ys : List (List (List ℕ))) : Type 0 where
@@ -27,14 +27,12 @@ reducing_part : {prefix : List Quantifier} {t u : Numbering} {s : List (List ℕ
 reducing_part (settles e) x i = absurd i
 reducing_part (sticks e) x i = absurd i
 reducing_part {prefix} (forces {s = s} {l} e m r) x i =
-    let k : (reduce prefix s).made ≡ setting l s ++ (reduce prefix (assigned l s)).made = ap (λ (x : Reduced). x.made) (at_forced prefix s l e) in
-    rw k (elim (in_append x (setting l s) (reducing r) i) [
+    rw (forced_made prefix s l e) (elim (in_append x (setting l s) (reducing r) i) [
       | inl j ↦ in_append_left x (setting l s) (reduce prefix (assigned l s)).made j
       | inr j ↦ in_append_right x (setting l s) (reduce prefix (assigned l s)).made (reducing_part r x j)
     ])
 reducing_part {prefix} (fills {s = s} {l} e m) x i =
-    let k : (reduce prefix s).made ≡ setting l s ++ (reduce prefix (assigned l s)).made = ap (λ (x : Reduced). x.made) (at_forced prefix s l e) in
-    rw k (in_append_left x (setting l s) (reduce prefix (assigned l s)).made (stops_some m x i))
+    rw (forced_made prefix s l e) (in_append_left x (setting l s) (reduce prefix (assigned l s)).made (stops_some m x i))
 
 module _ {M : Type 0} (held : M → Pairs) (notes : M → ℕ → Bool → M → Type 0) (law : (m : M) (n : ℕ) (b : Bool) (a : M) → notes m n b a → Kept (held m) n b (held a))
     (pick : List Candidate → ℕ) (picks : Picks pick) (prefix : List Quantifier) (allowance : ℕ) where

@@ -1,19 +1,11 @@
 -- What the tests of the lines tell, and the lowest number that passes a test.
-use Rattle.std.proofs.Common.{◌≡◌, ℕ, zero, suc, ◌+◌, ◌*◌, ◌/◌, ◌<◌, ◌≤◌, Bool, true, false, ◌&&◌, ◌||◌, List, [], ◌∷◌, length, Some, None, Option, sym, refl, ◌∙◌, inl, inr, arith}
+use Rattle.std.proofs.Common.{◌≡◌, ℕ, zero, suc, ◌+◌, ◌<◌, ◌≤◌, Bool, true, false, List, [], ◌∷◌, length, Some, None, Option, refl, inl, inr, arith}
 use Rattle.std.proofs.lemmas.Bool.Decides.{nat_tests}
-use Rattle.std.proofs.lemmas.Bool.{cases_eq, cases_Bool, cond_both}
+use Rattle.std.proofs.lemmas.Bool.{cases_eq, cases_Bool}
 use Rattle.qbf.specs.declared.Quantifier.{Quantifier}
 use Rattle.qbf.specs.declared.Quantifier.TheVariants.{Existential, Universal}
-use Rattle.qbf.specs.Literals.{complement}
-use Rattle.qbf.specs.Lists.{mem, without, In}
-use Rattle.qbf.specs.Clauses.{weave, union, lacking, taken_out, assigned}
-use Rattle.qbf.specs.Value.{assign, none, value}
-use Rattle.qbf.specs.Reduce.{binds, has_empty, has_unit, occurs, lone, lowest, Step, settled, forced, stuck, on_some, step, size}
-use Rattle.theory.proofs.Terms.{Bound}
-use Rattle.sets.proofs.Words.{without_absent}
-use Rattle.theory.proofs.Truths.{value_empty}
-use Rattle.theory.proofs.Rules.{unit_ex, unit_all, lone_ex, lone_all}
-use Rattle.theory.proofs.Setting.{value_assigned_set}
+use Rattle.qbf.specs.Lists.{mem, In}
+use Rattle.qbf.specs.Reduce.{binds, has_empty, has_unit, occurs, lowest, Step, on_some}
 
 pub binds_one : (prefix : List Quantifier) (x : ℕ) → x < length prefix → binds Existential prefix x ≡ false → binds Universal prefix x ≡ true
 binds_one [] x h e = absurd (omega arith)

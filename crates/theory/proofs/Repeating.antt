@@ -9,15 +9,15 @@ use Rattle.qbf.specs.Nodes.{Node}
 use Rattle.qbf.specs.Memo.{Pairs, Retains}
 use Rattle.qbf.specs.Clauses.{assigned, setting}
 use Rattle.qbf.specs.Value.{none}
-use Rattle.qbf.specs.Reduce.{has_empty, Step, stuck, forced, step, Outcome, decided, left, Reduced, resume, reduce}
+use Rattle.qbf.specs.Reduce.{has_empty, Outcome, decided, left, Reduced, resume, reduce}
 use Rattle.qbf.specs.Numbering.{Numbering, nth, stands, Among, Makes, Stops}
 use Rattle.qbf.specs.Decision.{Ending, verdict, ReducesIn, settles, sticks, forces, fills, Unknown, Splits, Decides, by_reducing, full_reducing, recalled, by_allowance, by_depth, full_first, refused_first, first_only, full_second, refused_second, both_sides}
 use Rattle.theory.specs.Repeating.{Known, known_reduced, known_held, Settled, DecisionSettles, Same, DecisionRepeats}
 use Rattle.sets.proofs.Words.{all_in}
 use Rattle.theory.proofs.Lines.{at_stuck}
 use Rattle.theory.proofs.Reduces.{reduce_unfolds, reduced_to, reduces_stuck}
-use Rattle.theory.proofs.Tables.{in_append, in_append_left, in_append_right, nth_append}
-use Rattle.theory.proofs.Deciding.{at_forced, reduces_done}
+use Rattle.theory.proofs.Tables.{in_append, in_append_left, in_append_right, stands_append}
+use Rattle.theory.proofs.Deciding.{forced_made, reduces_done}
 
 -- a table that has grown, and still has different sets if it had
 pub record Grows (t u : Numbering) : Type 0 where
@@ -45,9 +45,7 @@ in_grown : {t u : Numbering} → Grows t u → (x : List (List ℕ)) → In x t 
 in_grown {t} g x i = rw g.joined (in_append_left x t g.added i)
 
 stands_grown : {t u : Numbering} → Grows t u → (n : ℕ) (s : List (List ℕ)) → stands t n ≡ Some s → stands u n ≡ Some s
-stands_grown g zero s e = e
-stands_grown g (suc zero) s e = e
-stands_grown {t} g (suc (suc i)) s e = rw g.joined (nth_append t g.added i s e)
+stands_grown {t} g n s e = rw g.joined (stands_append t g.added n s e)
 
 reduces_grows : {prefix : List Quantifier} {t u : Numbering} {s : List (List ℕ)} {o : Option Outcome} → ReducesIn prefix t s o u → Grows t u
 reduces_grows (settles {t} e) = grows_none t
@@ -77,14 +75,11 @@ module _ {M : Type 0} {held : M → Pairs} {notes : M → ℕ → Bool → M →
 abbrev Whole : List Quantifier → List (List ℕ) → Numbering → Type 0
 Whole prefix s t = (y x : List (List ℕ)) → In y (reduce prefix s).made → Node x y → In x t
 
-made_at : (prefix : List Quantifier) (s : List (List ℕ)) (l : ℕ) → step prefix s ≡ forced l → (reduce prefix s).made ≡ setting l s ++ (reduce prefix (assigned l s)).made
-made_at prefix s l e = ap (λ (x : Reduced). x.made) (at_forced prefix s l e)
-
 reduces_whole : (prefix : List Quantifier) {t u : Numbering} {s : List (List ℕ)} {o : Option Outcome} → ReducesIn prefix t s o u → (a : Outcome) → o ≡ Some a → Whole prefix s u
 reduces_whole prefix (settles {s = s} e) a f y x i n = let m : (reduce prefix s).made ≡ [] = ap (λ (x : Reduced). x.made) (reduce_unfolds prefix s ∙ ap (resume (reduce prefix) s) e) in absurd (rw m at i)
 reduces_whole prefix (sticks {s = s} e) a f y x i n = let m : (reduce prefix s).made ≡ [] = ap (λ (x : Reduced). x.made) (reduce_unfolds prefix s ∙ ap (resume (reduce prefix) s) e) in absurd (rw m at i)
 reduces_whole prefix (forces {s = s} {l} e m r) a f y x i n =
-    elim (in_append y (setting l s) (reduce prefix (assigned l s)).made (rw (made_at prefix s l e) at i)) [
+    elim (in_append y (setting l s) (reduce prefix (assigned l s)).made (rw (forced_made prefix s l e) at i)) [
       | inl j ↦ in_grown (reduces_grows r) x (m.whole y x j n)
       | inr j ↦ reduces_whole prefix r a f y x j n
     ]
@@ -109,13 +104,13 @@ reduces_same : (prefix : List Quantifier) {t u : Numbering} {s : List (List ℕ)
 reduces_same prefix (settles e) w = (refl, λ f. cc)
 reduces_same prefix (sticks e) w = (refl, λ f. cc)
 reduces_same prefix (forces {s = s} {l} e m r) w =
-    let here : (y x : List (List ℕ)) → In y (setting l s) → Node x y → In x _ = λ y x i n. w y x (rw (made_at prefix s l e) (in_append_left y (setting l s) (reduce prefix (assigned l s)).made i)) n in
+    let here : (y x : List (List ℕ)) → In y (setting l s) → Node x y → In x _ = λ y x i n. w y x (rw (forced_made prefix s l e) (in_append_left y (setting l s) (reduce prefix (assigned l s)).made i)) n in
     let same = nothing_new m here in
-    let rest = reduces_same prefix r (λ y x i n. rw same (w y x (rw (made_at prefix s l e) (in_append_right y (setting l s) (reduce prefix (assigned l s)).made i)) n)) in
+    let rest = reduces_same prefix r (λ y x i n. rw same (w y x (rw (forced_made prefix s l e) (in_append_right y (setting l s) (reduce prefix (assigned l s)).made i)) n)) in
     (rest.0 ∙ same, rest.1)
 reduces_same prefix (fills {s = s} {l} e m) w =
     let some : In m.hand (setting l s) = subst (λ (z : List (List (List ℕ))). In m.hand z) (sym m.order) (in_append_right m.hand m.made (m.hand ∷ m.rest) (inl refl)) in
-    let i = w m.hand m.lacking.0 (rw (made_at prefix s l e) (in_append_left m.hand (setting l s) (reduce prefix (assigned l s)).made some)) m.lacking.1 in
+    let i = w m.hand m.lacking.0 (rw (forced_made prefix s l e) (in_append_left m.hand (setting l s) (reduce prefix (assigned l s)).made some)) m.lacking.1 in
     absurd (m.lacking.2 (in_grown (stops_grows m) m.lacking.0 i))
 
 -- one number for one set

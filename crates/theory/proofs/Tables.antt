@@ -58,12 +58,15 @@ pub still_in : {t u : Numbering} {sets : List (List (List ℕ))} → Gains t set
 still_in {t} g x i = rw g.joined (in_append_left x t g.added i)
 
 -- a number stands for the same set in a table that has grown
-pub nth_append : {A : Type 0} (xs ys : List A) (i : ℕ) (x : A) → nth xs i ≡ Some x → nth (xs ++ ys) i ≡ Some x
+nth_append : {A : Type 0} (xs ys : List A) (i : ℕ) (x : A) → nth xs i ≡ Some x → nth (xs ++ ys) i ≡ Some x
 nth_append [] ys i x e = grind (arith, nat_tests)
 nth_append (y ∷ xs) ys zero x e = e
 nth_append (y ∷ xs) ys (suc i) x e = nth_append xs ys i x e
 
+pub stands_append : (t added : Numbering) (n : ℕ) (s : List (List ℕ)) → stands t n ≡ Some s → stands (t ++ added) n ≡ Some s
+stands_append t added zero s e = e
+stands_append t added (suc zero) s e = e
+stands_append t added (suc (suc i)) s e = nth_append t added i s e
+
 pub stands_later : {t u : Numbering} {sets : List (List (List ℕ))} → Gains t sets u → (n : ℕ) (s : List (List ℕ)) → stands t n ≡ Some s → stands u n ≡ Some s
-stands_later g zero s e = e
-stands_later g (suc zero) s e = e
-stands_later {t} g (suc (suc i)) s e = rw g.joined (nth_append t g.added i s e)
+stands_later {t} g n s e = rw g.joined (stands_append t g.added n s e)
