@@ -3,25 +3,18 @@ use Rattle.std.proofs.Common.{◌≡◌, ℕ, ◌*◌, ◌<◌, Bool, true, fals
 use Rattle.std.specs.List.{AllByRecursion}
 use Rattle.std.proofs.lemmas.Bool.Decides.{nat_tests}
 use Rattle.std.proofs.lemmas.Bool.{cond_both}
-use Rattle.std.proofs.ByRecursion.{All-map, All-weaker}
+use Rattle.std.proofs.ByRecursion.{All-weaker}
 use Rattle.std.proofs.lemmas.List.{length-map}
 use Rattle.qbf.specs.declared.Candidate.{Candidate}
-use Rattle.clause.specs.Once.{once}
-use Rattle.clause.proofs.Sets.{once_all}
-use Rattle.words.specs.declared.literals.Literal.{Literal}
-use Rattle.words.specs.Words.{Token}
 use Rattle.formula.specs.declared.prefix.Binding.{Binding}
 use Rattle.formula.specs.Views.{Reading}
-use Rattle.formula.proofs.Positions.{found_within}
 use Rattle.grammar.specs.declared.fault.ReadFault.{ReadFault}
-use Rattle.grammar.specs.Grammar.{Coded, Clause, end, literal, Clauses, none, more}
 use Rattle.grammar.specs.Steps.{read_all}
-use Rattle.grammar.specs.Theorems.{LeavesOut, done, keeps, skips}
-use Rattle.grammar.proofs.Storing.{stored_stands_lem}
 use Rattle.grammar.proofs.Whole.{reading_stands_lem}
 use Rattle.sets.specs.Ordered.{clause_of}
 use Rattle.sets.proofs.Placed.{all_clause}
 use Rattle.sets.proofs.Formed.{all_formed, formed_stands_lem}
+use Rattle.rendering.proofs.Facts.{stored_within}
 use Rattle.ledger.specs.Answers.{LoadAnswer}
 use Rattle.ledger.specs.Ledger.{load, decide, write, forget, LoadedFormula, Ledger, has_prefix, most_allowed, under, is_full, formula_of, loads, decides, ledger}
 use Rattle.ledger.specs.Laws.{StandsUnder, FormulaStands}
@@ -31,28 +24,8 @@ use Rattle.ledger.proofs.Entering.{prefix_told}
 abbrev Small : List Binding → ℕ → Type 0
 Small prefix k = k < 2 * length prefix
 
-coded_small : (prefix : List Binding) (l : Literal) (k : ℕ) → Coded prefix l k → Small prefix k
-coded_small prefix l k c = let h = found_within 0 l.variable prefix c.0 c.1 in let e = c.2 in grind (arith, nat_tests)
-
-clause_small : {v : ℕ} {prefix : List Binding} {ws : List Token} {c : List ℕ} → Clause v prefix ws c → AllByRecursion (Small prefix) c
-clause_small (end e) = tt
-clause_small {prefix = prefix} (literal l {k} e a b c rest) = (coded_small prefix l k c, clause_small rest)
-
-clauses_small : {v : ℕ} {prefix : List Binding} {ws : List Token} {cs : List (List ℕ)} → Clauses v prefix ws cs → AllByRecursion (AllByRecursion (Small prefix)) cs
-clauses_small none = tt
-clauses_small (more c rest) = (clause_small c, clauses_small rest)
-
-all_left : {A : Type 0} (P : A → Type 0) {xs ys : List A} → LeavesOut xs ys → AllByRecursion P ys → AllByRecursion P xs
-all_left P done h = tt
-all_left P (keeps l) h = (h.0, all_left P l h.1)
-all_left P (skips l) h = all_left P l h.1
-
 reading_small : (text : List ℕ) (r : Reading) → read_all text ≡ Ok r → AllByRecursion (AllByRecursion (Small r.prefix)) r.clauses
-reading_small text r e =
-    let f = ((reading_stands_lem text).accepted r).0 e in
-    let P : List ℕ → Type 0 = AllByRecursion (Small r.prefix) in
-    let written = All-weaker P (λ c. P (once c)) (λ c. once_all (Small r.prefix) c) f.written_clauses (clauses_small f.clauses_are) in
-    rw f.stored (all_left P (stored_stands_lem f.written_clauses).in_order (All-map P once f.written_clauses written))
+reading_small text r e = stored_within (((reading_stands_lem text).accepted r).0 e)
 
 -- the formula of a text
 text_stands : (text : List ℕ) (r : Reading) → read_all text ≡ Ok r → StandsUnder (Some r.prefix) (formula_of r)

@@ -7,3 +7,4 @@ pub mod Stores
 pub mod Lengths
 pub mod Built
 pub mod Trips
+pub mod Facts

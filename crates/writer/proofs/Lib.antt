@@ -3,4 +3,3 @@ pub mod Blocks
 pub mod Below
 pub mod Sizes
 pub mod Written
-pub mod Facts

@@ -5,7 +5,7 @@ use Rattle.formula.specs.Views.{reading, bindings_of}
 use Rattle.rendering.specs.Render.{render}
 use Rattle.writer.specs.Written.{Written, Short}
 use Rattle.normal.proofs.Crowds.{crowded}
-use Rattle.writer.proofs.Facts.{stored_coded, set_within, set_few}
+use Rattle.rendering.proofs.Facts.{stored_coded, set_within, set_few}
 use Rattle.normal.proofs.normalized.Goals as goal
 
 pub store_clauses-requires : goal.store_clauses-requires

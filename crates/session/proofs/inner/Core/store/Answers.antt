@@ -4,7 +4,7 @@ use Rattle.std.proofs.lemmas.Result.{err_from_is_err_and}
 use Rattle.formula.specs.Views.{bindings_of}
 use Rattle.session.specs.declared.stored.Stored.{Stored}
 use Rattle.reduction.proofs.Settings.{made_makes, stopped_stops, adds_kept}
-use Rattle.writer.proofs.Facts.{stored_coded, set_within, set_few}
+use Rattle.rendering.proofs.Facts.{stored_coded, set_within, set_few}
 use Rattle.session.proofs.Cores.{formula_kept, bound_by, stored_held, stored_few, stored_within}
 use Rattle.session.proofs.inner.Core.store.Goals as goal
 

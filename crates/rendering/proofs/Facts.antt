@@ -1,29 +1,26 @@
 -- What holds of a formula that was read, so that it can be stored and written.
-use Rattle.std.proofs.Common.{ℕ, ◌*◌, ◌<◌, ◌≤◌, Bool, true, false, List, [], length, sym, ap, subst, arith}
+use Rattle.std.proofs.Common.{ℕ, ◌*◌, ◌<◌, ◌≤◌, List, [], length, sym, ap, subst, arith}
 use Rattle.std.specs.List.{AllByRecursion}
 use Rattle.std.proofs.ByRecursion.{All-weaker}
+use Rattle.std.proofs.lemmas.Bool.Decides.{nat_tests}
 use Rattle.arrays.proofs.Fits.{items_fit}
 use Rattle.formula.specs.declared.prefix.Binding.{Binding}
 use Rattle.formula.specs.declared.Formula.{Formula}
 use Rattle.formula.specs.Views.{Reading, reading, bindings_of, clauses_of}
 use Rattle.formula.proofs.Positions.{found_within}
-use Rattle.grammar.specs.Grammar.{Format, code_at}
+use Rattle.grammar.specs.Grammar.{Format}
 use Rattle.sets.specs.Formed.{formed}
-use Rattle.rendering.specs.Render.{literal_of}
 use Rattle.rendering.proofs.Codes.{Known}
 use Rattle.rendering.proofs.Lengths.{problem_cost, clauses_cost}
 use Rattle.rendering.proofs.Stores.{codes_stored, codes_formed, length_stored}
-
-code_within : (minus : Bool) (p n : ℕ) → p < n → code_at minus p < 2 * n
-code_within true p n h = omega arith
-code_within false p n h = omega arith
 
 -- the code of a variable that the prefix binds
 known_within : (v : ℕ) (prefix : List Binding) (k : ℕ) → Known v prefix k → k < 2 * length prefix
 known_within v prefix k known =
     let coded = known.2 in
     let at = found_within 0 _ prefix coded.0 coded.1 in
-    subst (λ (k : ℕ). k < 2 * length prefix) (sym coded.2) (code_within (literal_of prefix k).negative coded.0 (length prefix) (omega arith))
+    let e = coded.2 in
+    grind (arith, nat_tests)
 
 module _ {text : List ℕ} {f : Reading} (h : Format text f) where
   within : AllByRecursion (AllByRecursion (λ k. k < 2 * length f.prefix)) h.written_clauses
