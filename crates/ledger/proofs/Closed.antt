@@ -1,9 +1,7 @@
 -- The loaded formula stands under the loaded prefix.
-use Rattle.std.proofs.Common.{◌≡◌, ℕ, ◌*◌, ◌<◌, Bool, true, false, cond, leb, List, [], ◌∷◌, length, Some, None, Ok, Err, Option, Result, sym, refl, subst, arith}
-use Rattle.std.specs.List.{AllByRecursion}
+use Rattle.std.proofs.Common.{◌≡◌, ℕ, Bool, true, false, cond, leb, List, [], ◌∷◌, Some, None, Ok, Err, Option, Result, sym, refl, subst, arith}
 use Rattle.std.proofs.lemmas.Bool.Decides.{nat_tests}
 use Rattle.std.proofs.lemmas.Bool.{cond_both}
-use Rattle.std.proofs.ByRecursion.{All-weaker}
 use Rattle.std.proofs.lemmas.List.{length-map}
 use Rattle.qbf.specs.declared.Candidate.{Candidate}
 use Rattle.formula.specs.declared.prefix.Binding.{Binding}
@@ -11,31 +9,20 @@ use Rattle.formula.specs.Views.{Reading}
 use Rattle.grammar.specs.declared.fault.ReadFault.{ReadFault}
 use Rattle.grammar.specs.Steps.{read_all}
 use Rattle.grammar.proofs.Whole.{reading_stands_lem}
-use Rattle.sets.specs.Ordered.{clause_of}
-use Rattle.sets.proofs.Placed.{all_clause}
-use Rattle.sets.proofs.Formed.{all_formed, formed_stands_lem}
-use Rattle.rendering.proofs.Facts.{stored_within}
+use Rattle.sets.proofs.Formed.{formed_stands_lem}
+use Rattle.rendering.proofs.Facts.{set_within}
 use Rattle.ledger.specs.Answers.{LoadAnswer}
 use Rattle.ledger.specs.Ledger.{load, decide, write, forget, LoadedFormula, Ledger, has_prefix, most_allowed, under, is_full, formula_of, loads, decides, ledger}
 use Rattle.ledger.specs.Laws.{StandsUnder, FormulaStands}
 use Rattle.ledger.proofs.Entering.{prefix_told}
 
--- a literal of the prefix's variables
-abbrev Small : List Binding → ℕ → Type 0
-Small prefix k = k < 2 * length prefix
-
-reading_small : (text : List ℕ) (r : Reading) → read_all text ≡ Ok r → AllByRecursion (AllByRecursion (Small r.prefix)) r.clauses
-reading_small text r e = stored_within (((reading_stands_lem text).accepted r).0 e)
-
 -- the formula of a text
 text_stands : (text : List ℕ) (r : Reading) → read_all text ≡ Ok r → StandsUnder (Some r.prefix) (formula_of r)
 text_stands text r e =
-    let P : List ℕ → Type 0 = AllByRecursion (Small r.prefix) in
-    let small = all_formed P [] r.clauses tt (All-weaker P (λ c. P (clause_of c)) (λ c. all_clause (Small r.prefix) c) r.clauses (reading_small text r e)) in
     record {
       prefix = r.prefix;
       there = refl;
-      closed = rw (length-map r.prefix (λ b. b.quantifier)) small;
+      closed = rw (length-map r.prefix (λ b. b.quantifier)) (set_within (((reading_stands_lem text).accepted r).0 e));
       canonical = (formed_stands_lem r.clauses).canonical;
     }
 
