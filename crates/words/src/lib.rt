@@ -13,7 +13,7 @@ ghost use Rattle.words.specs.Split.{WordsStand};
 ghost use Rattle.words.specs.Numbers.{NumbersStand};
 
 pub use literals::Literal;
-pub use numbers::{NumberFault, is_numeral, literal, number, value_within};
+pub use numbers::{NumberFault, is_numeral, literal, number, value_of};
 pub use scanner::{Scanner, Word};
 
 // The words that a scanner gives are those of the text as they are declared, and the only ones.

@@ -1,5 +1,5 @@
 // Words read as numbers and as the literals of clauses.
-ghost use Rattle.std.specs.Prelude.{◌≡◌, ◌<◌, ◌≤◌, true, IfSome, IfOk, MatchOption};
+ghost use Rattle.std.specs.Prelude.{◌≡◌, ◌^◌, ◌<◌, ◌≤◌, true, IfSome, IfOk, MatchOption};
 ghost use Rattle.words.specs.Numbers.{all_digits, numeral, value_of, read_number, read_literal};
 
 use crate::literals::Literal;
@@ -27,16 +27,16 @@ pub fn is_numeral(bytes: &[u8]) -> bool
     }
 }
 
-// The value of the digits, if it is at most `max`.
-pub fn value_within(digits: &[u8], max: usize) -> Option<usize>
+// The value of the digits, if a `usize` holds it.
+pub fn value_of(digits: &[u8]) -> Option<usize>
     requires { all_digits digits.now ≡ true }
-    ensures { MatchOption result (max < value_of digits.now) (λ n. (n ≤ max) × (n ≡ value_of digits.now)) }
+    ensures { MatchOption result (2 ^ 64 ≤ value_of digits.now) (λ n. n ≡ value_of digits.now) }
 {
     let mut n: usize = 0;
     for b in digits {
         n = n.checked_mul(10)?.checked_add(usize::from(*b - b'0'))?;
     }
-    (n <= max).then_some(n)
+    Some(n)
 }
 
 // The number that a word spells, if it is at most `max`.
@@ -50,8 +50,10 @@ pub fn number(bytes: &[u8], max: u16) -> Result<u16, NumberFault>
     if bytes.len() > 4 {
         return Err(NumberFault::OutOfRange);
     }
-    let n = value_within(bytes, usize::from(max)).ok_or(NumberFault::OutOfRange)?;
-    Ok(n as u16)
+    match value_of(bytes) {
+        Some(n) if n <= usize::from(max) => Ok(n as u16),
+        _ => Err(NumberFault::OutOfRange),
+    }
 }
 
 // The literal that a word spells, if its variable is at most `max`; none if the word is 0, which ends a clause.

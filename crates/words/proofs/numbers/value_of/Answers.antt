@@ -1,6 +1,6 @@
 use Rattle.std.proofs.Common.{arith}
 use Rattle.words.proofs.Digits.{value_so_far}
-use Rattle.words.proofs.numbers.value_within.Goals as goal
+use Rattle.words.proofs.numbers.value_of.Goals as goal
 
 pub returns-in_err-checked_mul : goal.returns-in_err-checked_mul
 returns-in_err-checked_mul c =
