@@ -51,5 +51,5 @@ stands c d rest left r s h e =
     let p = body_fits c rest in
     let q = body_fits d left in
     let l = ap length e in
-    let cut = same_cut (line c) (body c ++ rest) (line d) (body d ++ left) (unbroken_line c r (omega arith)) (unbroken_line d s (omega arith)) (sym (spelled_on c rest) ∙ e ∙ spelled_on d left) in
+    let cut = same_cut 10 (line c) (body c ++ rest) (line d) (body d ++ left) (unbroken_line c r (omega arith)) (unbroken_line d s (omega arith)) (sym (spelled_on c rest) ∙ e ∙ spelled_on d left) in
     same_line c d rest left r s (omega arith) (omega arith) cut.0 cut.1

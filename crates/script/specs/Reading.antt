@@ -7,10 +7,14 @@ use Rattle.script.specs.declared.calls.Make.{Make}
 use Rattle.script.specs.declared.scripts.Script.{Script}
 use Rattle.script.specs.Spelling.{space_bytes, spelled_make, line, body, spelled, spelled_all}
 
+-- the byte stands nowhere in the text
+abbrev pub lacks : ℕ → List ℕ → Bool
+lacks byte [] = true
+lacks byte (b ∷ bs) = not (b == byte) && lacks byte bs
+
 -- no line ends in the text
 abbrev pub unbroken : List ℕ → Bool
-unbroken [] = true
-unbroken (b ∷ bs) = not (b == 10) && unbroken bs
+unbroken text = lacks 10 text
 
 -- the numbers of a call are not too large. Every call that code holds is so
 abbrev pub InRange : Call → Type 0

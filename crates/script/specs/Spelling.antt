@@ -7,8 +7,7 @@ use Rattle.script.specs.declared.calls.ChooserKind.TheVariants.{First, Busiest}
 use Rattle.script.specs.declared.calls.Make.{Make}
 use Rattle.script.specs.declared.calls.MemoKind.{MemoKind}
 use Rattle.script.specs.declared.calls.MemoKind.TheVariants.{Blank, Slotted, Keeping}
-use Rattle.script.specs.declared.calls.Space.{Space}
-use Rattle.script.specs.declared.calls.Space.TheVariants.{Part, Whole}
+use Rattle.script.specs.declared.space.Space.{Space}
 
 abbrev pub memo_word : MemoKind → List ℕ
 memo_word Blank = codes "blank"
@@ -28,8 +27,7 @@ spelled_make m = make_line m ++ 10 ∷ []
 
 -- how many bytes a space has
 abbrev pub space_bytes : Space → ℕ
-space_bytes (Part bytes) = bytes
-space_bytes Whole = 65536
+space_bytes s = s.bytes
 
 -- the line of a call, without its end
 abbrev pub line : Call → List ℕ

@@ -2,54 +2,28 @@
 ghost use Rattle.std.specs.Prelude.{◌++◌, drop, codes, MatchOption};
 ghost use Rattle.script.specs.Reading.{NoCall, OnLine, NotOnLine, Called};
 
-use crate::calls::{Call, Space};
+use crate::calls::Call;
 use crate::lines::{after, first_line};
 use crate::numbers::number;
-
-// The greatest allowance of a decision.
-const MOST_ALLOWED: usize = 4294967295;
-
-// A load, by the word that says how long its text is, and what follows its line.
-fn load<'a>(word: &[u8], follows: &'a [u8]) -> Option<(Call<'a>, &'a [u8])>
-    ensures { MatchOption result (NotOnLine (codes "load " ++ word.now) follows.now) (λ p. OnLine (codes "load " ++ word.now) follows.now p.0 p.1.now) }
-{
-    let len = number(word, follows.len())?;
-    Some((Call::Load(&follows[0..len]), &follows[len..]))
-}
-
-// A decision, by the word that says its allowance.
-fn decide<'a>(word: &[u8], follows: &'a [u8]) -> Option<(Call<'a>, &'a [u8])>
-    ensures { MatchOption result (NotOnLine (codes "decide " ++ word.now) follows.now) (λ p. OnLine (codes "decide " ++ word.now) follows.now p.0 p.1.now) }
-{
-    let allowance = number(word, MOST_ALLOWED)?;
-    Some((Call::Decide(allowance as u32), follows))
-}
-
-// A write, by the word that says its space.
-fn write<'a>(word: &[u8], follows: &'a [u8]) -> Option<(Call<'a>, &'a [u8])>
-    ensures { MatchOption result (NotOnLine (codes "write " ++ word.now) follows.now) (λ p. OnLine (codes "write " ++ word.now) follows.now p.0 p.1.now) }
-{
-    let space = Space::new(number(word, Space::MOST)?)?;
-    Some((Call::Write(space), follows))
-}
+use crate::space::Space;
 
 // The call that has this line, and what follows the call.
 fn on_line<'a>(line: &[u8], follows: &'a [u8]) -> Option<(Call<'a>, &'a [u8])>
     ensures { MatchOption result (NotOnLine line.now follows.now) (λ p. OnLine line.now follows.now p.0 p.1.now) }
 {
     if let Some(word) = after(line, b"load ") {
-        return load(word, follows);
+        let (text, rest) = follows.split_at_checked(number(word)?)?;
+        return Some((Call::Load(text), rest));
     }
     if let Some(word) = after(line, b"decide ") {
-        return decide(word, follows);
+        let allowance = u32::try_from(number(word)?).ok()?;
+        return Some((Call::Decide(allowance), follows));
     }
     if let Some(word) = after(line, b"write ") {
-        return write(word, follows);
+        let space = Space::try_from(number(word)?).ok()?;
+        return Some((Call::Write(space), follows));
     }
-    if line == b"forget".as_slice() {
-        return Some((Call::Forget, follows));
-    }
-    None
+    (line == b"forget".as_slice()).then_some((Call::Forget, follows))
 }
 
 // The call that is spelled at a place of the script, and the place behind it.

@@ -1,4 +1,5 @@
 // The calls of a script as data.
+use crate::space::Space;
 
 // Which memo a session has.
 #[derive(Clone, Copy, PartialEq, Eq, Debug)]
@@ -20,13 +21,6 @@ pub enum ChooserKind {
 pub struct Make {
     pub memo: MemoKind,
     pub chooser: ChooserKind,
-}
-
-// The space that is given to what is written: fewer than 65,536 bytes, or just as many. No value stands for more.
-#[derive(Clone, Copy, PartialEq, Eq, Debug)]
-pub enum Space {
-    Part(u16),
-    Whole,
 }
 
 // A call on a session: the text of a load, the allowance of a decision, the space for what is written.

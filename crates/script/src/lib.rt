@@ -22,13 +22,12 @@ mod space;
 ghost use Rattle.script.specs.Meaning.{SpellingStands};
 
 pub use calling::read_call;
-pub use calls::{Call, ChooserKind, Make, MemoKind, Space};
+pub use calls::{Call, ChooserKind, Make, MemoKind};
 pub use making::read_make;
 pub use scripts::{Script, read_script};
+pub use space::{Space, TooManyBytes};
 
 // A text spells at most one call at its front.
-pub fn spelling_stands() -> u8
+pub fn spelling_stands()
     ensures { SpellingStands }
-{
-    0
-}
+{}

@@ -1,25 +1,21 @@
 // Reading the first line, which says how the session is made.
-ghost use Rattle.std.specs.Prelude.{◌≡◌, ℕ, List, ◌∷◌, ◌++◌, MatchOption, ◌≢◌};
+ghost use Rattle.std.specs.Prelude.{◌≡◌, MatchOption, ◌≢◌};
 ghost use Rattle.script.specs.Spelling.{memo_word, chooser_word, make_line};
 ghost use Rattle.script.specs.Reading.{NoMake, Opened};
 
 use crate::calls::{ChooserKind, Make, MemoKind};
-use crate::lines::{after, first_line};
+use crate::lines::{after, first_line, split_once};
 
-// The memo that the words begin with, and what follows the space behind it.
-fn memo_kind<'a>(words: &'a [u8]) -> Option<(MemoKind, &'a [u8])>
-    ensures { MatchOption result ((k : MemoKind) (rest : List ℕ) → words.now ≢ memo_word k ++ 32 ∷ rest) (λ p. words.now ≡ memo_word p.0 ++ 32 ∷ p.1.now) }
+// The memo that a word names.
+fn memo_kind(word: &[u8]) -> Option<MemoKind>
+    ensures { MatchOption result ((k : MemoKind) → word.now ≢ memo_word k) (λ k. word.now ≡ memo_word k) }
 {
-    if let Some(rest) = after(words, b"blank ") {
-        return Some((MemoKind::Blank, rest));
+    match word {
+        b"blank" => Some(MemoKind::Blank),
+        b"slotted" => Some(MemoKind::Slotted),
+        b"keeping" => Some(MemoKind::Keeping),
+        _ => None,
     }
-    if let Some(rest) = after(words, b"slotted ") {
-        return Some((MemoKind::Slotted, rest));
-    }
-    if let Some(rest) = after(words, b"keeping ") {
-        return Some((MemoKind::Keeping, rest));
-    }
-    None
 }
 
 // The chooser that a word names.
@@ -38,9 +34,11 @@ fn make_of(line: &[u8]) -> Option<Make>
     ensures { MatchOption result ((m : Make) → line.now ≢ make_line m) (λ m. line.now ≡ make_line m) }
 {
     let words = after(line, b"session ")?;
-    let (memo, word) = memo_kind(words)?;
-    let chooser = chooser_kind(word)?;
-    Some(Make { memo, chooser })
+    let (memo, chooser) = split_once(words, b' ')?;
+    Some(Make {
+        memo: memo_kind(memo)?,
+        chooser: chooser_kind(chooser)?,
+    })
 }
 
 // How the session is made, by the first line of the script, and the place behind that line.

@@ -27,7 +27,8 @@ fn read_calls<'a>(
     let mut calls = Vec::new(heap);
     let mut at = start;
     while let Some((call, next)) = read_call(script, at) {
-        calls.push(call)?;
+        // converted ahead of `?`, which gets no proof of its own over a refused call with a space in it
+        calls.push(call).map_err(AllocError::from)?;
         at = next;
     }
     Ok((calls, at))

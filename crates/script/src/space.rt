@@ -1,33 +1,38 @@
 // The space that is given to what is written.
-ghost use Rattle.std.specs.Prelude.{◌≡◌, ◌<◌, ◌≤◌, MatchOption};
-ghost use Rattle.script.specs.Spelling.{space_bytes};
+ghost use Rattle.std.specs.Prelude.{◌≡◌, ◌<◌, ◌≤◌, MatchResult};
 
-use crate::calls::Space;
+// A number of bytes, 65,536 at most.
+#[derive(Clone, Copy, PartialEq, Eq, Debug)]
+pub struct Space {
+    bytes: usize,
+    ghost most: { bytes ≤ 65536 },
+}
+
+// No space has so many bytes.
+#[derive(Clone, Copy, PartialEq, Eq, Debug)]
+pub struct TooManyBytes;
+
+impl TryFrom<usize> for Space {
+    type Error = TooManyBytes;
+
+    ghost try_from_gives = { λ bytes r. MatchResult r (λ s. s.bytes ≡ bytes) (λ _. 65536 < bytes) };
+
+    fn try_from(bytes: usize) -> Result<Space, TooManyBytes> {
+        if bytes > Self::MOST {
+            return Err(TooManyBytes);
+        }
+        Ok(Space { bytes })
+    }
+}
 
 impl Space {
     pub const MOST: usize = 65536;
 
-    // A space of so many bytes; none if they are too many.
-    pub fn new(bytes: usize) -> Option<Space>
-        ensures { MatchOption result (65536 < bytes) (λ s. space_bytes s ≡ bytes) }
-    {
-        if bytes > Self::MOST {
-            return None;
-        }
-        if bytes == Self::MOST {
-            return Some(Space::Whole);
-        }
-        Some(Space::Part(bytes as u16))
-    }
-
     // How many bytes the space has.
     pub fn bytes(&self) -> usize
-        ensures value { result ≡ space_bytes self.now }
+        ensures value { result ≡ self.now.bytes }
         ensures bound { result ≤ 65536 }
     {
-        match self {
-            Space::Part(bytes) => usize::from(*bytes),
-            Space::Whole => Self::MOST,
-        }
+        self.bytes
     }
 }

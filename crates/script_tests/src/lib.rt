@@ -160,7 +160,7 @@ mod tests {
 
     #[test]
     fn calls_are_told_apart(rt: HostRuntime) -> Result<(), Fail> {
-        let space = Space::new(100).ok_or("too much")?;
+        let space = Space::try_from(100)?;
         expect_call(&rt, 0, Some((Call::Load(b"p\n\n"), 10)));
         expect_call(&rt, 10, Some((Call::Decide(12), 20)));
         expect_call(&rt, 20, Some((Call::Write(space), 30)));
@@ -177,9 +177,9 @@ mod tests {
 
     #[test]
     fn spaces_have_a_bound(rt: HostRuntime) -> Result<(), Fail> {
-        assert_eq!(rt; Space::new(65536).ok_or("too much")?.bytes(), 65536);
-        assert_eq!(rt; Space::new(65535).ok_or("too much")?.bytes(), 65535);
-        assert!(rt; Space::new(65537).is_none());
+        assert_eq!(rt; Space::try_from(65536)?.bytes(), 65536);
+        assert_eq!(rt; Space::try_from(65535)?.bytes(), 65535);
+        assert!(rt; Space::try_from(65537).is_err());
         Ok(())
     }
 }

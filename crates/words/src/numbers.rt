@@ -1,5 +1,5 @@
 // Words read as numbers and as the literals of clauses.
-ghost use Rattle.std.specs.Prelude.{◌≡◌, ◌^◌, ◌<◌, ◌≤◌, true, IfSome, IfOk, MatchOption};
+ghost use Rattle.std.specs.Prelude.{◌≡◌, ◌^◌, ◌<◌, ◌≤◌, true, IfSome, IfOk, SomeIff};
 ghost use Rattle.words.specs.Numbers.{all_digits, numeral, value_of, read_number, read_literal};
 
 use crate::literals::Literal;
@@ -30,7 +30,7 @@ pub fn is_numeral(bytes: &[u8]) -> bool
 // The value of the digits, if a `usize` holds it.
 pub fn value_of(digits: &[u8]) -> Option<usize>
     requires { all_digits digits.now ≡ true }
-    ensures { MatchOption result (2 ^ 64 ≤ value_of digits.now) (λ n. n ≡ value_of digits.now) }
+    ensures { SomeIff result (value_of digits.now < 2 ^ 64) (value_of digits.now) }
 {
     let mut n: usize = 0;
     for b in digits {

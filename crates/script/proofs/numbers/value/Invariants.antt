@@ -1,6 +1,0 @@
-use Rattle.std.proofs.Common.{◌≡◌, ◌≤◌, true, drop}
-use Rattle.words.specs.Numbers.{all_digits, value_from}
-use Rattle.script.proofs.numbers.value.Given as goal
-
-abbrev pub invariant-loop-b : goal.invariant-loop-b
-invariant-loop-b l = (value_from l.n (drop l.b-index l.digits) ≡ value_from 0 l.digits) × (all_digits (drop l.b-index l.digits) ≡ true) × (l.n ≤ l.max)
