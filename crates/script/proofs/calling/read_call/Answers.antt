@@ -26,8 +26,5 @@ found : (c : In_ok-call) → (length c.in_ok-call.rest.now ≤ length c.args.scr
 found c =
     called c.args.script.now c.args.at c.in_ok-line.line.now c.in_ok-line.follows.now c.in_ok-call.call c.in_ok-call.rest.now c.if-at-script.false (cut (goal.at.In_ok-call c).In_ok-line) c.in_ok-call.ensures
 
-pub overflow_sub-result : goal.overflow_sub-result
-overflow_sub-result c = (found (goal.at.overflow_sub-result c).In_ok-call).0
-
 pub returns : goal.returns
 returns c = (found (goal.at.returns c).In_ok-call).1
