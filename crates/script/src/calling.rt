@@ -30,10 +30,8 @@ fn on_line<'a>(line: &[u8], follows: &'a [u8]) -> Option<(Call<'a>, &'a [u8])>
 pub fn read_call<'a>(script: &'a [u8], at: usize) -> Option<(Call<'a>, usize)>
     ensures { MatchOption result (NoCall (drop at script.now)) (λ p. Called script.now at p.0 p.1) }
 {
-    if at > script.len() {
-        return None;
-    }
-    let (line, follows) = first_line(&script[at..])?;
+    let (_, text) = script.split_at_checked(at)?;
+    let (line, follows) = first_line(text)?;
     let (call, rest) = on_line(line, follows)?;
     Some((call, script.len() - rest.len()))
 }
