@@ -23,17 +23,9 @@ use Rattle.ledger.proofs.Keeping.{load_keeps, decision_keeps}
 use Rattle.histories.specs.Standing.{Standing, Fresh, Begins, same_prefix, other_prefix}
 use Rattle.histories.specs.Dealings.{Deals, deals_unread, deals_loaded, deals_load_full, deals_decided, deals_undecided, deals_too_large, deals_written, deals_short, deals_unwritten, deals_forgot}
 use Rattle.histories.specs.Histories.{Led, led_new, led_on, Honest, AllHonest}
-use Rattle.histories.specs.Laws.{ByLedger, HistoriesStand, PromisesKept, DealingsHonest}
+use Rattle.histories.specs.Laws.{Agrees, HistoriesStand, PromisesKept, DealingsHonest}
 use Rattle.histories.proofs.Cases.{one_some, none_some}
 use Rattle.histories.proofs.Ledgers.{under_same, under_other, decides_loaded, decides_nothing, decides_too_large}
-
--- where a session stands, by a ledger
-pub record Agrees {M : Type 0} (held : M → Pairs) (l : Ledger) (s : Standing M) : Type 0 where
-  pub prefix : s.prefix ≡ l.prefix
-  pub formula : s.formula ≡ l.formula
-  pub weighed : AllByRecursion (Among l.weighed) s.table
-  pub apart : Distinct s.table
-  pub right : Right (quantifiers s.prefix) s.table (held s.memo)
 
 empty_right : (o : Option (List Binding)) (t : Numbering) (pairs : Pairs) → Empty pairs → Right (quantifiers o) t pairs
 empty_right o t pairs empty n b e = absurd (none_some (empty n) e)
@@ -95,7 +87,7 @@ module _ {M : Type 0} (held : M → Pairs) (notes : M → ℕ → Bool → M →
   -- a writing changes nothing
   writes_sound : {history : List Dealing} {s : Standing M} {space : ℕ} {w : WriteAnswer} → Sound history s → Sound (write space w ∷ history) s
   writes_sound sound = record {
-    agrees = record { prefix = sound.agrees.prefix; formula = sound.agrees.formula; weighed = sound.agrees.weighed; apart = sound.agrees.apart; right = sound.agrees.right };
+    agrees = sound.agrees;
     settles = not_decided (λ allowance a e. grind (arith, nat_tests));
   }
 
@@ -229,11 +221,8 @@ module _ {M : Type 0} (held : M → Pairs) (notes : M → ℕ → Bool → M →
   pub deals_honest : {history : List Dealing} {s t : Standing M} {d : Dealing} → Led held notes pick history s → Deals held notes pick s d t → Honest held notes pick history d
   deals_honest l d = (step (led_sound l) d).honest
 
-  abbrev by_ledger : {history : List Dealing} {s : Standing M} → Agrees held (ledger pick history) s → ByLedger held pick history s
-  by_ledger a = record { prefix = a.prefix; formula = a.formula; weighed = a.weighed; apart = a.apart; right = a.right }
-
 pub histories_stand_lem : {M : Type 0} (held : M → Pairs) (notes : M → ℕ → Bool → M → Type 0) (law : (m : M) (n : ℕ) (b : Bool) (a : M) → notes m n b a → Kept (held m) n b (held a)) → HistoriesStand held notes
-histories_stand_lem held notes law pick picks history s l = by_ledger held notes law pick picks (led_sound held notes law pick picks l).agrees
+histories_stand_lem held notes law pick picks history s l = (led_sound held notes law pick picks l).agrees
 
 pub promises_kept : {M : Type 0} (held : M → Pairs) (notes : M → ℕ → Bool → M → Type 0) (law : (m : M) (n : ℕ) (b : Bool) (a : M) → notes m n b a → Kept (held m) n b (held a)) → PromisesKept held notes
 promises_kept held notes law pick picks history s l = led_honest held notes law pick picks l

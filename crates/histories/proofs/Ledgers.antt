@@ -1,5 +1,5 @@
 -- The ledger after one dealing more.
-use Rattle.std.proofs.Common.{◌≡◌, ℕ, ◌<◌, Bool, true, false, leb, List, [], Some, None, Option, refl, ap, ◌∙◌, arith}
+use Rattle.std.proofs.Common.{◌≡◌, ℕ, ◌<◌, true, false, leb, List, [], Some, None, Option, refl, arith}
 use Rattle.std.proofs.lemmas.Bool.Decides.{nat_tests}
 use Rattle.std.proofs.lemmas.Bool.{cond_both}
 use Rattle.qbf.specs.declared.Candidate.{Candidate}
@@ -13,18 +13,10 @@ under_same l p e = let t : has_prefix l.prefix p ≡ true = (prefix_told l.prefi
 
 -- a text with another prefix
 pub under_other : (l : Ledger) (p : List Binding) → (l.prefix ≡ Some p → ⊥) → under l p ≡ record { prefix = Some p; formula = None; weighed = [] }
-under_other l p ne = go (has_prefix l.prefix p) refl
-  where
-    go : (t : Bool) → has_prefix l.prefix p ≡ t → under l p ≡ record { prefix = Some p; formula = None; weighed = [] }
-    go true e = absurd (ne ((prefix_told l.prefix p).0 e))
-    go false e = rw e
+under_other l p ne = cond_both (has_prefix l.prefix p) l _ (λ (u : Ledger). u ≡ record { prefix = Some p; formula = None; weighed = [] }) (λ e. absurd (ne ((prefix_told l.prefix p).0 e))) (λ _. refl)
 
 pub under_prefix : (l : Ledger) (p : List Binding) → (under l p).prefix ≡ Some p
-under_prefix l p = go (has_prefix l.prefix p) refl
-  where
-    go : (t : Bool) → has_prefix l.prefix p ≡ t → (under l p).prefix ≡ Some p
-    go true e = let told = (prefix_told l.prefix p).0 e in ap (λ (m : Ledger). m.prefix) (under_same l p told) ∙ told
-    go false e = rw e
+under_prefix l p = cond_both (has_prefix l.prefix p) l _ (λ (u : Ledger). u.prefix ≡ Some p) (λ e. (prefix_told l.prefix p).0 e) (λ _. refl)
 
 -- a decision leaves the loaded prefix and formula
 pub decides_loaded : (pick : List Candidate → ℕ) (l : Ledger) (allowance : ℕ) (o : Option LoadedFormula) →

@@ -7,20 +7,25 @@ use Rattle.qbf.specs.Memo.{Pairs}
 use Rattle.qbf.specs.Chooser.{Picks}
 use Rattle.qbf.specs.Numbering.{Among}
 use Rattle.qbf.specs.Decision.{Right}
-use Rattle.ledger.specs.Ledger.{Dealing, quantifiers, ledger}
+use Rattle.ledger.specs.Ledger.{Dealing, Ledger, quantifiers, ledger}
 use Rattle.histories.specs.Standing.{Standing}
 use Rattle.histories.specs.Dealings.{Deals}
 use Rattle.histories.specs.Histories.{Led, Honest, AllHonest}
 
--- A session that a history led to stands as the history's ledger says: its prefix and formula are the ledger's, its table holds
--- nodes of the weighed sets, each once, and its memo's pairs are right.
-pub record ByLedger {M : Type 0} (held : M → Pairs) (pick : List Candidate → ℕ) (history : List Dealing) (s : Standing M) : Type 0 where
-  pub prefix : s.prefix ≡ (ledger pick history).prefix
-  pub formula : s.formula ≡ (ledger pick history).formula
-  pub weighed : AllByRecursion (Among (ledger pick history).weighed) s.table
+-- A session stands as a ledger says: its prefix and formula are the ledger's, its table holds nodes of the weighed sets, each
+-- once, and its memo's pairs are right.
+pub record Agrees {M : Type 0} (held : M → Pairs) (l : Ledger) (s : Standing M) : Type 0 where
+  pub prefix : s.prefix ≡ l.prefix
+  pub formula : s.formula ≡ l.formula
+  pub weighed : AllByRecursion (Among l.weighed) s.table
   pub apart : Distinct s.table
   pub right : Right (quantifiers s.prefix) s.table (held s.memo)
 
+-- as that of a history says
+abbrev pub ByLedger : {M : Type 0} → (M → Pairs) → (List Candidate → ℕ) → List Dealing → Standing M → Type 0
+ByLedger held pick history s = Agrees held (ledger pick history) s
+
+-- every session does that the history led to
 abbrev pub HistoriesStand : {M : Type 0} → (M → Pairs) → (M → ℕ → Bool → M → Type 0) → Type 0
 HistoriesStand {M} held notes =
     (pick : List Candidate → ℕ) → Picks pick → (history : List Dealing) (s : Standing M) → Led held notes pick history s → ByLedger held pick history s

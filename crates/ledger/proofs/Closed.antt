@@ -31,12 +31,10 @@ abbrev Sound : Ledger → Type 0
 Sound l = (f : LoadedFormula) → l.formula ≡ Some f → StandsUnder l.prefix f
 
 under_sound : (l : Ledger) (p : List Binding) → Sound l → Sound (under l p) × ((under l p).prefix ≡ Some p)
-under_sound l p h = go (has_prefix l.prefix p) refl
-  where
-    go : (t : Bool) → has_prefix l.prefix p ≡ t →
-        let u : Ledger = cond t l (record { prefix = Some p; formula = None; weighed = [] }) in Sound u × (u.prefix ≡ Some p)
-    go true e = (h, (prefix_told l.prefix p).0 e)
-    go false e = (λ f i. absurd (grind (arith, nat_tests)), refl)
+under_sound l p h =
+    cond_both (has_prefix l.prefix p) l _ (λ (u : Ledger). Sound u × (u.prefix ≡ Some p))
+    (λ e. (h, (prefix_told l.prefix p).0 e))
+    (λ _. (λ f i. absurd (cc), refl))
 
 loads_sound : (l : Ledger) (text : List ℕ) (a : LoadAnswer) → Sound l → (x : Result Reading ReadFault) → read_all text ≡ x → Sound (loads l x a)
 loads_sound l text a h (Err e) i = h
@@ -54,8 +52,8 @@ decides_sound pick l allowance h (Some f) =
     cond_both (leb allowance most_allowed) _ l Sound (λ e. h) (λ e. h)
 
 pub formula_stands : FormulaStands
-formula_stands pick [] = λ f e. absurd (grind (arith, nat_tests))
+formula_stands pick [] = λ f e. absurd (cc)
 formula_stands pick (load text a ∷ history) = loads_sound (ledger pick history) text a (formula_stands pick history) (read_all text) refl
 formula_stands pick (decide allowance a ∷ history) = decides_sound pick (ledger pick history) allowance (formula_stands pick history) (ledger pick history).formula
 formula_stands pick (write space a ∷ history) = formula_stands pick history
-formula_stands pick (forget ∷ history) = λ f e. absurd (grind (arith, nat_tests))
+formula_stands pick (forget ∷ history) = λ f e. absurd (cc)

@@ -1,11 +1,10 @@
 -- The promises are kept.
-use Rattle.std.proofs.Common.{◌≡◌, ℕ, ◌≤◌, Bool, true, leb, List, [], ◌∷◌, ◌++◌, Option, refl, ap, ◌∙◌, inl, inr, arith}
+use Rattle.std.proofs.Common.{◌≡◌, ℕ, ◌≤◌, Bool, true, leb, List, [], ◌∷◌, ◌++◌, Option, refl, ap, ◌∙◌, arith}
 use Rattle.std.specs.List.{AllByRecursion}
 use Rattle.std.proofs.lemmas.Bool.Decides.{nat_tests}
 use Rattle.std.proofs.ByRecursion.{All-append, All-weaker}
 use Rattle.qbf.specs.declared.Quantifier.{Quantifier}
 use Rattle.qbf.specs.declared.Candidate.{Candidate}
-use Rattle.qbf.specs.Lists.{In}
 use Rattle.qbf.specs.Nodes.{Crowded}
 use Rattle.qbf.specs.Memo.{Pairs, Kept, NeverHolds}
 use Rattle.qbf.specs.Numbering.{Numbering, capacity, Among, Gains}
@@ -14,6 +13,7 @@ use Rattle.sets.specs.Formed.{forming}
 use Rattle.theory.specs.Deciding.{Overfull, Judged}
 use Rattle.theory.proofs.Terms.{Subset}
 use Rattle.theory.proofs.Tables.{in_append_left, in_append_right, among_more, stops_gains}
+use Rattle.theory.proofs.Counting.{all_from_in}
 use Rattle.theory.proofs.Deciding.{judged, unaided}
 use Rattle.ledger.specs.Answers.{answer}
 use Rattle.ledger.specs.Ledger.{LoadedFormula, Ledger, quantifiers, most_allowed, under, decides}
@@ -27,16 +27,12 @@ gained_weighed {t} w sets h g =
     let new = All-weaker (Among sets) (Among (w ++ sets)) (among_more sets (w ++ sets) (λ s. in_append_right s w sets)) g.added g.nodes in
     rw g.joined (All-append (Among (w ++ sets)) t g.added old new)
 
-absent_apart : {A : Type 0} (x : A) (xs : List A) → (In x xs → ⊥) → AllByRecursion (λ y. x ≡ y → ⊥) xs
-absent_apart x [] h = tt
-absent_apart x (y ∷ xs) h = (λ e. h (inl e), absent_apart x xs (λ i. h (inr i)))
-
 -- a full table of weighed nodes, and one node more
 overfull_crowded : {t : Numbering} (w sets : List (List (List ℕ))) → Subset sets w → AllByRecursion (Among w) t → Overfull sets t → Crowded capacity w
 overfull_crowded {t} w sets p h o =
     let x : List (List ℕ) = o.lacking.0 in
     let e = o.full in
-    record { list = x ∷ t; long = omega (arith, e); apart = (absent_apart x t o.lacking.2, o.apart); nodes = (among_more sets w p x o.lacking.1, h) }
+    record { list = x ∷ t; long = omega (arith, e); apart = (all_from_in (λ y. x ≡ y → ⊥) t (λ y i e. o.lacking.2 (rw e i)), o.apart); nodes = (among_more sets w p x o.lacking.1, h) }
 
 pub making_weighed : MakingWeighed
 making_weighed weighed sets before after h m = (gained_weighed weighed sets h m.gains, m.whole)
