@@ -1,8 +1,9 @@
 -- The candidates' positions are positions of the prefix.
-use Rattle.std.proofs.Common.{◌≡◌, ℕ, suc, ◌+◌, ◌-◌, ◌<◌, ◌≤◌, Bool, cond, List, [], ◌∷◌, map, length, ◌∙◌, subst, inl, inr, arith, length-take}
+use Rattle.std.proofs.Common.{◌≡◌, ℕ, suc, ◌+◌, ◌-◌, ◌<◌, ◌≤◌, Bool, cond, List, [], ◌∷◌, map, length, ◌∙◌, subst, inl, inr, arith}
 use Rattle.std.proofs.lemmas.List.{length-map}
 use Rattle.std.specs.List.{AllByRecursion}
 use Rattle.std.proofs.lemmas.Bool.{cond_both}
+use Rattle.arrays.proofs.Fits.{items_fit}
 use Rattle.qbf.specs.declared.Quantifier.{Quantifier}
 use Rattle.qbf.specs.declared.Candidate.{Candidate}
 use Rattle.qbf.specs.Reduce.{same}
@@ -40,7 +41,7 @@ listed_under s (x ∷ xs) top p u (inl e) = let h = u.0 in (omega (arith, e), om
 listed_under s (x ∷ xs) top p u (inr l) = listed_under s xs top p u.1 l
 
 length_quantifiers : (p : Prefix) → length (quantifiers_of p) ≤ 256
-length_quantifiers p = let f = p.fits in omega (arith, length-map (bindings_of p) (λ b. b.quantifier), length-take p.len p.bindings)
+length_quantifiers p = let f = items_fit p.bindings in omega (arith, length-map (bindings_of p) (λ b. b.quantifier))
 
 -- the position that is picked of the candidates is one of the prefix's
 pub position_within : (pick : List Candidate → ℕ) → Picks pick → (p : Prefix) (s : List (List ℕ)) (cs : List Candidate) (position : ℕ) →

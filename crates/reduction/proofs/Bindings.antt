@@ -1,5 +1,6 @@
 -- The bindings of a prefix, as they are lent.
-use Rattle.std.proofs.Common.{◌≡◌, ℕ, ◌≤◌, List, length, sym, ap, subst, arith, length-take}
+use Rattle.std.proofs.Common.{◌≡◌, ℕ, ◌≤◌, List, length, sym, ap, subst, arith}
+use Rattle.arrays.proofs.Fits.{items_fit}
 use Rattle.qbf.specs.Walk.{outermost, candidates}
 use Rattle.formula.specs.declared.prefix.Binding.{Binding}
 use Rattle.formula.specs.declared.prefix.Prefix.{Prefix}
@@ -11,7 +12,7 @@ use Rattle.reduction.specs.Outcomes.{candidates_of}
 
 module _ (p : Prefix) (bs : List Binding) (lent : bs ≡ bindings_of p) where
   pub few_lent : length bs ≤ 256
-  few_lent = let a = ap length lent in let f = p.fits in let g = length-take p.len p.bindings in omega arith
+  few_lent = let a = ap length lent in let f = items_fit p.bindings in omega arith
 
   pub ready_lent : (t : Table) (n : ℕ) → Ready (quantifiers_of p) t n → Ready (quantified bs) t n
   ready_lent t n r = subst (λ (xs : List Binding). Ready (quantified xs) t n) (sym lent) r
