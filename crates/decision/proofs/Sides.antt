@@ -1,23 +1,31 @@
 -- The two sides of a split put together.
-use Rattle.std.proofs.Common.{◌≡◌, ℕ, suc, Bool, false, List}
+use Rattle.std.proofs.Common.{◌≡◌, ℕ, suc, Bool, false, List, Err, Result}
 use Rattle.qbf.specs.declared.Quantifier.{Quantifier}
 use Rattle.qbf.specs.declared.Candidate.{Candidate}
 use Rattle.qbf.specs.Literals.{positive, negative}
 use Rattle.qbf.specs.Memo.{Pairs}
 use Rattle.qbf.specs.Walk.{outermost, ends}
 use Rattle.qbf.specs.Numbering.{Numbering}
-use Rattle.qbf.specs.Decision.{Refusal, Ending, verdict, refused, Splits, Decides, full_first, refused_first, first_only, full_second, refused_second, both_sides}
+use Rattle.qbf.specs.Decision.{Refusal, Ending, verdict, refused, Unknown, Splits, Decides, by_allowance, by_depth, full_first, refused_first, first_only, full_second, refused_second, both_sides}
 use Rattle.decision.specs.declared.choice.Choice.{Choice}
 use Rattle.decision.specs.declared.unfinished.Halt.{Halt}
-use Rattle.decision.specs.declared.unfinished.Unfinished.{Unfinished}
-use Rattle.decision.specs.Endings.{refusal}
+use Rattle.decision.specs.declared.unfinished.Halt.TheVariants.{Full, Spent, TooDeep}
+use Rattle.decision.specs.declared.progress.Progress.{Progress}
+use Rattle.decision.specs.declared.walk.Walk.{Walk}
+use Rattle.decision.specs.Endings.{refusal, came_to}
+use Rattle.decision.specs.Walks.{ReadyAt, set_of, Stays, SideAt}
+use Rattle.decision.proofs.Standing.{ready_later}
+use Rattle.reduction.specs.Numbered.{quantifiers_of, sets_of, Kept}
+use Rattle.decision.specs.Starts.{Starts}
 use Rattle.decision.specs.Steps.{Side, unmade, walked, Sides, first_refused, first_ends, second, Noted}
 
 module _ {M : Type 0} {held : M → Pairs} {notes : M → ℕ → Bool → M → Type 0} {prefix : List Quantifier} {pick : List Candidate → ℕ} where
-  -- a refusal by the answer that tells it
-  pub refused_by : {allowance depth splits done : ℕ} {t v : Numbering} {m o : M} {s : List (List ℕ)} {halt : Halt} (u : Unfinished) → (u.halt ≡ halt) × (u.splits ≡ done) →
-      Decides held notes prefix pick allowance depth splits t m s (refused (refusal halt)) done v o → Decides held notes prefix pick allowance depth splits t m s (refused (refusal u.halt)) u.splits v o
-  refused_by u e d = rw (e.0, e.1) d
+  -- a split that could not start
+  pub not_started : {t u : Numbering} {m : M} {s r : List (List ℕ)} {n : ℕ} (p q : Progress) (halt : Halt) → Starts p (Err halt) q → Unknown held prefix t m s r n u →
+      Decides held notes prefix pick p.allowance p.depth p.splits t m s (refused (refusal halt)) q.splits u m
+  not_started p q Full no_way unknown = absurd no_way
+  not_started p q Spent (same, spent) unknown = rw same (by_allowance unknown spent)
+  not_started p q TooDeep (same, left, deep) unknown = rw same (by_depth unknown left deep)
 
   -- a side by other names of what it starts from
   pub side_at : {a1 a2 d1 d2 k1 k2 l1 l2 done : ℕ} {t u : Numbering} {m o : M} {r1 r2 : List (List ℕ)} {e : Ending} → a1 ≡ a2 → d1 ≡ d2 → k1 ≡ k2 → r1 ≡ r2 → l1 ≡ l2 →
@@ -54,3 +62,13 @@ module _ {M : Type 0} {held : M → Pairs} {notes : M → ℕ → Bool → M →
     sides_decide (first_ends (walked mk d) en) nt = first_only sp mk d (rw bound at en) nt
     sides_decide (second {e = refused f} one en two) same = rw same (refused_at_second one (rw bound at en) two)
     sides_decide (second {e = verdict c} one en two) nt = ended_by_second one (rw bound at en) two nt
+
+-- what the first side leaves, for the second
+module _ {M C : Type 0} (held : M → Pairs) (notes : M → ℕ → Bool → M → Type 0) (picks : C → List Candidate → ℕ) (w v : Walk M C) (stays : Stays w v) (number : ℕ) where
+  pub later_ready : Kept w.table.now v.table.now → ReadyAt w number → ReadyAt v number
+  later_ready kept ready = rw stays.prefix (ready_later (quantifiers_of w.prefix.now) w.table.now v.table.now number kept ready)
+
+  pub later_side : (l : ℕ) (r : Result Bool Halt) (u : Walk M C) → set_of v number ≡ set_of w number → SideAt held notes picks v number l r u →
+      Side held notes (quantifiers_of w.prefix.now) (picks w.chooser.now) w.progress.allowance w.progress.depth v.progress.splits (sets_of v.table.now) v.memo.now (set_of w number) l
+      (came_to r) u.progress.splits (sets_of u.table.now) u.memo.now
+  later_side l r u same side = rw (← stays.prefix, ← stays.chooser, ← stays.allowance, ← stays.depth, ← same) side

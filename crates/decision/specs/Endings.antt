@@ -19,3 +19,8 @@ ending_of (Err u) = refused (refusal u.halt)
 abbrev pub splits_of : Result (Bool × ℕ) Unfinished → ℕ
 splits_of (Ok a) = a.1
 splits_of (Err u) = u.splits
+
+-- the same of an answer that tells no splits
+abbrev pub came_to : Result Bool Halt → Ending
+came_to (Ok b) = verdict b
+came_to (Err halt) = refused (refusal halt)

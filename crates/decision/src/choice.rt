@@ -5,8 +5,6 @@ ghost use Rattle.qbf.specs.Walk.{ends};
 
 use qbf::Quantifier;
 
-pub mod picking;
-
 // The variable, counted from 0, and its quantifier.
 #[derive(Clone, Copy)]
 pub struct Choice {

@@ -11,7 +11,7 @@ ghost use Rattle.decision.specs.Judging.{StaysRight, Unaided};
 ghost use Rattle.reduction.specs.Numbered.{quantifiers_of, sets_of, Ready, Kept};
 
 use crate::progress::Progress;
-use crate::walk::walk;
+use crate::walk::Walk;
 use choosers::Chooser;
 use formula::Prefix;
 use memos::Memo;
@@ -34,8 +34,7 @@ pub fn decide<M: Memo, C: Chooser>(
     number: u16,
     allowance: u32,
 ) -> Result<(bool, u32), Unfinished>
-    requires ready { Ready (quantifiers_of prefix.now) table.old number }
-    requires allowed { allowance ≤ 1000000 }
+    requires { Ready (quantifiers_of prefix.now) table.old number }
     ensures decides { Decides M.held M.notes (quantifiers_of prefix.now) (C.picks chooser.now) allowance 0 0 (sets_of table.old) memo.old (clauses table.old number) (ending_of result) (splits_of result) (sets_of table.new) memo.new }
     ensures keeps { Kept table.old table.new }
     ensures right { StaysRight M.held (quantifiers_of prefix.now) (C.picks chooser.now) allowance (sets_of table.old) memo.old (clauses table.old number) (ending_of result) (splits_of result) (sets_of table.new) memo.new }
@@ -46,5 +45,17 @@ pub fn decide<M: Memo, C: Chooser>(
         splits: 0,
         depth: 0,
     };
-    walk(table, memo, chooser, prefix, number, progress)
+    let mut walk = Walk {
+        table,
+        memo,
+        chooser,
+        prefix,
+        progress,
+    };
+    let answer = walk.decide(number);
+    let splits = walk.progress.splits;
+    match answer {
+        Ok(verdict) => Ok((verdict, splits)),
+        Err(halt) => Err(Unfinished { halt, splits }),
+    }
 }
