@@ -1,1 +1,2 @@
 pub mod Normal
+pub mod Told

@@ -1,8 +1,10 @@
 // Why a text is not written.
-ghost use Rattle.std.specs.Prelude.{◌≡◌};
+ghost use Rattle.std.specs.Prelude.{◌≡◌, Some};
+ghost use Rattle.normal.specs.Told.{told};
 ghost use Rattle.normal.specs.declared.fault.Unwritten.TheVariants.{Unread, Full as NoRoom, TooShort as TooLittle};
 
 use grammar::ReadFault;
+use std::fmt;
 use table::Full;
 use writer::TooShort;
 
@@ -14,6 +16,19 @@ pub enum Unwritten {
     Full,
     // the buffer is too short for the text that is written, which has so many bytes
     TooShort(usize),
+}
+
+// With its number as a session tells it, and the offset, 0 or the length needed.
+impl fmt::Display for Unwritten {
+    ghost output = { λ unwritten. Some (told unwritten) };
+
+    fn fmt<W: fmt::Write>(&self, f: &mut fmt::Formatter<W>) -> fmt::Result {
+        match self {
+            Unwritten::Unread(fault) => write!(f, "{fault}"),
+            Unwritten::Full => write!(f, "refused 10 at 0"),
+            Unwritten::TooShort(needed) => write!(f, "refused 9 at {needed}"),
+        }
+    }
 }
 
 impl From<ReadFault> for Unwritten {
