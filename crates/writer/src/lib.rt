@@ -7,3 +7,5 @@ mod clauses;
 mod lines;
 mod pen;
 mod whole;
+
+pub use whole::{TooShort, write};
