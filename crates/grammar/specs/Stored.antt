@@ -1,11 +1,11 @@
 -- Which clauses of a text are stored, each as the list of its literals' codes.
-use Rattle.std.specs.Prelude.{ℕ, Bool, false, cond, ◌||◌, List, [], ◌∷◌, ◌++◌}
+use Rattle.std.specs.Prelude.{ℕ, Bool, cond, List, [], ◌∷◌, ◌++◌}
+use Rattle.std.specs.List.{list_any}
 use Rattle.clause.specs.Once.{once, both_signs, same_set}
 
 -- whether a clause of the list has the same literals
 abbrev pub repeated : List ℕ → List (List ℕ) → Bool
-repeated c [] = false
-repeated c (d ∷ ds) = same_set c d || repeated c ds
+repeated c ds = list_any (same_set c) ds
 
 -- One clause more, as it was written: each literal once; not stored are one with both signs of a variable,
 -- and one that is stored already.

@@ -1,3 +1,4 @@
 mod Bound
 mod Stored
 mod Lasting
+pub mod Refusing

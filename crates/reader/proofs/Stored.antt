@@ -1,15 +1,14 @@
 -- The literals of the stored clauses.
-use Rattle.std.proofs.Common.{◌≡◌, ℕ, ◌+◌, ◌-◌, ◌<◌, ◌≤◌, Bool, true, ◌||◌, leb, List, [], ◌∷◌, length, get_or, take, drop, sym, ap, ◌∙◌, arith}
-use Rattle.std.proofs.lemmas.List.{length-take-le, length-drop, at_drop_more}
+use Rattle.std.proofs.Common.{◌≡◌, ℕ, ◌+◌, ◌-◌, ◌≤◌, true, leb, List, [], ◌∷◌, length, take, ap, ◌∙◌, arith}
+use Rattle.std.proofs.lemmas.List.{length-take-le, length-drop}
 use Rattle.std.proofs.lemmas.Slice.{between_is}
 use Rattle.std.proofs.lemmas.Bool.{and_parts, leb-true, eqb-true}
 use Rattle.std.specs.List.{between}
+use Rattle.arrays.specs.Lists.{items_of}
 use Rattle.formula.specs.declared.clauses.ClauseList.{ClauseList}
 use Rattle.formula.specs.Ends.{climbs, clauses_from}
 use Rattle.formula.specs.Views.{clauses_of}
 use Rattle.formula.proofs.Ends.{climbs_up}
-use Rattle.clause.specs.Once.{same_set}
-use Rattle.grammar.specs.Stored.{repeated}
 use Rattle.reader.specs.Sound.{total}
 
 length_between : (a e : ℕ) (xs : List ℕ) → e ≤ length xs → length (between a e xs) ≡ e - a
@@ -30,11 +29,5 @@ total_from s (e ∷ es) top xs c h =
 -- as many literals as are used
 pub total_used : (t : ClauseList) → total (clauses_of t) ≡ t.used
 total_used t =
-    let long = t.long in
-    let r = t.room in
-    let e = total_from 0 (take t.len t.ends) t.used t.literals t.ordered (omega arith) in
+    let e = total_from 0 (items_of t.ends) t.used (items_of t.literals) t.ordered t.stored in
     omega arith
-
--- one clause on
-pub repeated_more : (c : List ℕ) (ds : List (List ℕ)) (i : ℕ) (t : Bool) → i < length ds → t ≡ same_set c (get_or ds i []) → repeated c (drop i ds) ≡ (t || repeated c (drop (i + 1) ds))
-repeated_more c ds i t h e = at_drop_more (repeated c) ds i [] h ∙ ap (λ (b : Bool). b || repeated c (drop (i + 1) ds)) (sym e)

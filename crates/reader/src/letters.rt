@@ -1,10 +1,13 @@
-// Words compared with fixed ones.
+// Words that are fixed texts or letters.
 ghost use Rattle.std.specs.Prelude.{◌≡◌};
 ghost use Rattle.std.specs.Str.{bytes_eq};
-ghost use Rattle.reader.specs.Letters.{only};
+ghost use Rattle.grammar.specs.Grammar.{p_word, cnf_word};
+ghost use Rattle.reader.specs.Letters.{only, quantifier_of};
+
+use qbf::Quantifier;
 
 // The letter of a word that has no more.
-pub fn only_letter(bytes: &[u8]) -> Option<char>
+fn only_letter(bytes: &[u8]) -> Option<char>
     ensures { result ≡ only bytes.now }
 {
     match bytes {
@@ -13,8 +16,26 @@ pub fn only_letter(bytes: &[u8]) -> Option<char>
     }
 }
 
-pub fn is_text(bytes: &[u8], text: &[u8]) -> bool
-    ensures { result ≡ bytes_eq bytes.now text.now }
+// Whether a word is the letter p.
+pub fn is_p(bytes: &[u8]) -> bool
+    ensures { result ≡ bytes_eq bytes.now p_word }
 {
-    bytes == text
+    matches!(only_letter(bytes), Some('p'))
+}
+
+pub fn is_cnf(bytes: &[u8]) -> bool
+    ensures { result ≡ bytes_eq bytes.now cnf_word }
+{
+    bytes == b"cnf".as_slice()
+}
+
+// The quantifier whose letter the word is.
+pub fn quantifier(bytes: &[u8]) -> Option<Quantifier>
+    ensures { result ≡ quantifier_of bytes.now }
+{
+    match only_letter(bytes) {
+        Some('a') => Some(Quantifier::Universal),
+        Some('e') => Some(Quantifier::Existential),
+        _ => None,
+    }
 }

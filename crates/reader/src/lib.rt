@@ -6,7 +6,6 @@
 
 mod clauses;
 mod ends;
-mod head;
 mod letters;
 mod prefixes;
 mod steps;
@@ -65,10 +64,8 @@ fn read_words_into(text: &[u8], draft: &mut Formula) -> Result<(), ReadFault>
     }
     let mut place = Place::Problem;
     for word in Scanner::new(text) {
-        match on_word(place, word, draft) {
-            Ok(next) => place = next,
-            Err(rule) => return Err(ReadFault { rule, at: word.at }),
-        }
+        let at = word.at;
+        place = on_word(place, word, draft).map_err(|rule| ReadFault { rule, at })?;
     }
     at_end(place, draft, text)
 }

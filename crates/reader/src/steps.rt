@@ -6,26 +6,11 @@ ghost use Rattle.reader.specs.Sound.{Sound, kept};
 ghost use Rattle.reader.specs.Views.{draft_of};
 
 use crate::clauses::on_clause_word;
-use crate::head::{is_cnf, is_p, on_count, on_variables};
-use crate::prefixes::{on_variable, quantifier};
+use crate::letters::{is_cnf, is_p, quantifier};
+use crate::prefixes::on_variable;
 use formula::Formula;
 use grammar::{Place, Rule};
-use words::Word;
-
-// A word behind a finished line of the head: it begins a prefix line, or the first clause.
-fn on_line(word: Word, draft: &mut Formula) -> Result<Place, Rule>
-    requires sound { Sound Place.Line (draft_of draft.old) }
-    requires room { kept (draft_of draft.old) < 30000 }
-    ensures { stepped Place.Line (draft_of draft.old) (token word.entry) ≡ joined result (draft_of draft.new) }
-{
-    if !word.first {
-        return Err(Rule::Misplaced);
-    }
-    match quantifier(word.bytes) {
-        Some(quantifier) => Ok(Place::FirstVariable(quantifier)),
-        None => on_clause_word(true, word, draft),
-    }
-}
+use words::{Word, number};
 
 // The place behind the word, with what it adds to the draft, or the rule that it breaks there.
 pub fn on_word(place: Place, word: Word, draft: &mut Formula) -> Result<Place, Rule>
@@ -34,26 +19,28 @@ pub fn on_word(place: Place, word: Word, draft: &mut Formula) -> Result<Place, R
     ensures { stepped place (draft_of draft.old) (token word.entry) ≡ joined result (draft_of draft.new) }
 {
     match place {
-        Place::Problem => {
-            if word.first && is_p(word.bytes) {
-                Ok(Place::Format)
-            } else {
-                Err(Rule::Misplaced)
-            }
+        Place::Problem if word.first && is_p(word.bytes) => Ok(Place::Format),
+        Place::Format if !word.first && is_cnf(word.bytes) => Ok(Place::Variables),
+        Place::Variables if !word.first => {
+            draft.variables = number(word.bytes, 256)?;
+            Ok(Place::Count)
         }
-        Place::Format => {
-            if !word.first && is_cnf(word.bytes) {
-                Ok(Place::Variables)
-            } else {
-                Err(Rule::Misplaced)
-            }
+        Place::Count if !word.first => {
+            draft.declared = number(word.bytes, 2048)?;
+            Ok(Place::Line)
         }
-        Place::Variables => on_variables(word, draft),
-        Place::Count => on_count(word, draft),
-        Place::Line => on_line(word, draft),
-        Place::FirstVariable(quantifier) => on_variable(quantifier, true, word, draft),
-        Place::NextVariable(quantifier) => on_variable(quantifier, false, word, draft),
-        Place::Between => on_clause_word(true, word, draft),
-        Place::Within => on_clause_word(false, word, draft),
+        Place::Line if word.first => match quantifier(word.bytes) {
+            Some(quantifier) => Ok(Place::FirstVariable(quantifier)),
+            None => on_clause_word(true, word.bytes, draft),
+        },
+        Place::FirstVariable(quantifier) if !word.first => {
+            on_variable(quantifier, true, word.bytes, draft)
+        }
+        Place::NextVariable(quantifier) if !word.first => {
+            on_variable(quantifier, false, word.bytes, draft)
+        }
+        Place::Between => on_clause_word(true, word.bytes, draft),
+        Place::Within => on_clause_word(false, word.bytes, draft),
+        _ => Err(Rule::Misplaced),
     }
 }

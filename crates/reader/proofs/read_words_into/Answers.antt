@@ -1,9 +1,12 @@
-use Rattle.std.proofs.Common.{length, sym, ap, ◌∙◌, subst, arith}
+use Rattle.std.proofs.Common.{Result, length, sym, ap, ◌∙◌, subst, arith}
 use Rattle.words.specs.Words.{token, left}
 use Rattle.words.proofs.Places.{words_few}
 use Rattle.grammar.specs.declared.place.Place.TheVariants.{Problem}
 use Rattle.grammar.specs.Places.{Draft, empty}
-use Rattle.grammar.specs.Steps.{read_from}
+use Rattle.grammar.specs.declared.place.Place.{Place}
+use Rattle.grammar.specs.declared.fault.Rule.{Rule}
+use Rattle.grammar.specs.Steps.{read_from, joined}
+use Rattle.reader.proofs.Refusing.{stood_right}
 use Rattle.reader.specs.Sound.{Sound, kept}
 use Rattle.reader.specs.Views.{draft_of}
 use Rattle.reader.proofs.Lasting.{blank_empty, empty_sound, lasts_at, read_on}
@@ -32,11 +35,12 @@ loop-word-preserved c =
     let word = token c.in-Some.word in
     let text = c.args.text.now in
     let cut = c.in-Some.ensures.steps.cases in
-    let lasts = lasts_at place draft word {e = next} c.loop-word.invariant.2 c.in-Ok.ensures in
+    let right = c.on_word.ensures ∙ ap (λ (r : Result Place Rule). joined r next) (stood_right c.on_word.result c.map_err.result c.in_ok-place.place _ c.map_err.ensures.cases c.map_err.ensures.variant c.in_ok-place.was) in
+    let lasts = lasts_at place draft word {e = next} c.loop-word.invariant.2 right in
     let fewer = ap length cut in (
       tt,
       tt,
       lasts.0,
       omega (arith, lasts.1, c.loop-word.invariant.3),
-      read_on place draft word {e = next} text (left c.next.new.self) c.in-Ok.ensures ∙ ap (read_from place draft text) (sym cut) ∙ c.loop-word.invariant.4,
+      read_on place draft word {e = next} text (left c.next.new.self) right ∙ ap (read_from place draft text) (sym cut) ∙ c.loop-word.invariant.4,
     )

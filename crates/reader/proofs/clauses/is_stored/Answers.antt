@@ -1,27 +1,19 @@
-use Rattle.std.proofs.Common.{◌<◌, true, false, [], length, sym, ap, ◌∙◌, subst, arith}
+use Rattle.std.proofs.Common.{rules, tests}
 use Rattle.std.proofs.ByRecursion.{All-get_or}
-use Rattle.std.proofs.lemmas.List.{at_drop_all}
+use Rattle.std.proofs.lemmas.Iterator.Consumers.{YieldsList-from_first}
+use Rattle.std.proofs.lemmas.Iterator.Adapters.{serves_from_places}
+use Rattle.std.proofs.lemmas.Iterator.Search.{any_from_yields_List}
 use Rattle.clause.specs.Once.{same_set}
 use Rattle.clause.specs.Codes.{codes_of}
-use Rattle.formula.specs.Views.{clauses_of}
-use Rattle.grammar.specs.Stored.{repeated}
+use Rattle.formula.specs.Views.{clauses_of, clauses_left}
 use Rattle.reader.specs.Sound.{Clean}
-use Rattle.reader.proofs.Stored.{repeated_more}
 use Rattle.reader.proofs.clauses.is_stored.Goals as goal
 
-pub same_literals-requires : goal.same_literals-requires
-same_literals-requires c =
-    let inside : c.loop-place.place < length (clauses_of c.args.clauses.now) = omega arith in
-    let clean = subst Clean (sym c.clause.ensures) (All-get_or Clean (clauses_of c.args.clauses.now) c.loop-place.place [] inside c.requires) in
-    record { small = clean.0; distinct = clean.1 }
-
-pub returns-then-same_literals : goal.returns-then-same_literals
-returns-then-same_literals c =
-    sym (repeated_more (codes_of c.args.clause.now) (clauses_of c.args.clauses.now) c.loop-place.place true (omega arith) (c.if-same_literals.ensures ∙ ap (same_set (codes_of c.args.clause.now)) c.clause.ensures)) ∙ c.loop-place.invariant
-
-pub loop-place-preserved : goal.loop-place-preserved
-loop-place-preserved c =
-    sym (repeated_more (codes_of c.args.clause.now) (clauses_of c.args.clauses.now) c.loop-place.place false (omega arith) (c.if-same_literals.ensures ∙ ap (same_set (codes_of c.args.clause.now)) c.clause.ensures)) ∙ c.loop-place.invariant
+pub any-requires-clause-callable : goal.any-requires-clause-callable
+any-requires-clause-callable c =
+    serves_from_places (YieldsList-from_first (λ x. x.now) clauses_left (clauses_of c.args.clauses.now) c.iter.ensures) (λ x q e. search rules)
+    (λ x k h e. let s = All-get_or Clean (clauses_of c.args.clauses.now) k x.now h c.requires in search rules)
 
 pub returns : goal.returns
-returns c = sym (at_drop_all (repeated (codes_of c.args.clause.now)) (clauses_of c.args.clauses.now) c.loop-place.place (omega arith)) ∙ c.loop-place.invariant
+returns c =
+    any_from_yields_List (same_set (codes_of c.args.clause.now)) c.any.new.self _ _ c.any.ensures.ran (YieldsList-from_first (λ x. x.now) clauses_left (clauses_of c.args.clauses.now) c.iter.ensures) (λ x b q k. search (rules, tests))
