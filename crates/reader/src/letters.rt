@@ -1,7 +1,7 @@
 // Words that are fixed texts or letters.
 ghost use Rattle.std.specs.Prelude.{◌≡◌};
 ghost use Rattle.std.specs.Str.{bytes_eq};
-ghost use Rattle.grammar.specs.Grammar.{p_word, cnf_word};
+ghost use Rattle.grammar.specs.Grammar.{p_word};
 ghost use Rattle.reader.specs.Letters.{only, quantifier_of};
 
 use qbf::Quantifier;
@@ -21,12 +21,6 @@ pub fn is_p(bytes: &[u8]) -> bool
     ensures { result ≡ bytes_eq bytes.now p_word }
 {
     matches!(only_letter(bytes), Some('p'))
-}
-
-pub fn is_cnf(bytes: &[u8]) -> bool
-    ensures { result ≡ bytes_eq bytes.now cnf_word }
-{
-    bytes == b"cnf".as_slice()
 }
 
 // The quantifier whose letter the word is.

@@ -6,7 +6,7 @@ ghost use Rattle.reader.specs.Sound.{Sound, kept};
 ghost use Rattle.reader.specs.Views.{draft_of};
 
 use crate::clauses::on_clause_word;
-use crate::letters::{is_cnf, is_p, quantifier};
+use crate::letters::{is_p, quantifier};
 use crate::prefixes::on_variable;
 use formula::Formula;
 use grammar::{Place, Rule};
@@ -20,7 +20,7 @@ pub fn on_word(place: Place, word: Word, draft: &mut Formula) -> Result<Place, R
 {
     match place {
         Place::Problem if word.first && is_p(word.bytes) => Ok(Place::Format),
-        Place::Format if !word.first && is_cnf(word.bytes) => Ok(Place::Variables),
+        Place::Format if !word.first && word.bytes == b"cnf".as_slice() => Ok(Place::Variables),
         Place::Variables if !word.first => {
             draft.variables = number(word.bytes, 256)?;
             Ok(Place::Count)
