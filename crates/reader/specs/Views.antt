@@ -1,11 +1,10 @@
 -- What the reader's arrays and answers stand for.
-use Rattle.std.specs.Prelude.{ℕ, Bool, cond, List, [], ◌∷◌, ◌++◌, Ok, Err, Result}
+use Rattle.std.specs.Prelude.{Ok, Err, Result}
 use Rattle.formula.specs.declared.Formula.{Formula}
 use Rattle.formula.specs.Views.{bindings_of, clauses_of, begun_of, reading}
 use Rattle.grammar.specs.declared.fault.ReadFault.{ReadFault}
 use Rattle.grammar.specs.Places as places
 use Rattle.grammar.specs.Steps.{Answer}
-use Rattle.grammar.specs.Stored.{repeated}
 
 -- what the words so far say: a formula under way
 abbrev pub draft_of : Formula → places.Draft
@@ -17,10 +16,6 @@ draft_of f = record {
   stored = clauses_of f.clauses;
   begun = begun_of f.clauses;
 }
-
--- the stored clauses after one more, with each literal once: not one with both signs, nor one that is stored already
-abbrev pub extended : List (List ℕ) → Bool → List ℕ → List (List ℕ)
-extended stored both_signs c = cond both_signs stored (cond (repeated c stored) stored (stored ++ c ∷ []))
 
 -- the formula that was read, or the fault
 abbrev pub outcome : Result Formula ReadFault → Answer
