@@ -1,6 +1,7 @@
 -- Making sets by computing is making sets.
-use Rattle.std.proofs.Common.{◌≡◌, ℕ, suc, ◌+◌, ◌<◌, ◌≤◌, Bool, true, false, cond, ltb, List, [], ◌∷◌, ◌++◌, length, Some, sym, refl, ap, ◌∙◌, inl, inr, append_assoc, append-nil, arith, length-append}
+use Rattle.std.proofs.Common.{◌≡◌, ℕ, ◌+◌, ◌<◌, ◌≤◌, Bool, true, false, cond, ltb, List, [], ◌∷◌, ◌++◌, length, Some, sym, refl, ap, ◌∙◌, inl, inr, append_assoc, append-nil, arith, length-append}
 use Rattle.std.specs.List.{AllByRecursion}
+use Rattle.std.proofs.lemmas.Bool.{cases_Bool}
 use Rattle.std.proofs.lemmas.Bool.Decides.{nat_tests, not_from_Decides}
 use Rattle.std.proofs.ByRecursion.{All-weaker}
 use Rattle.qbf.specs.Lists.{In, Distinct}
@@ -161,9 +162,9 @@ making t (s ∷ sets) f = go (add t (nodes s)) (adds t (nodes s) f).fit (one_mad
 -- the number of a set stands for it
 pub place_is : (s : List (List ℕ)) (t : Numbering) → In s t → nth t (place s t) ≡ Some s
 place_is s [] h = absurd h
-place_is s (x ∷ t) h = go (same_set s x) refl h (place_is s t)
-  where
-    go : (b : Bool) → same_set s x ≡ b → In s (x ∷ t) → (In s t → nth t (place s t) ≡ Some s) → nth (x ∷ t) (cond b 0 (suc (place s t))) ≡ Some s
-    go true e h ih = ap Some (sym ((decides_same s x).0 e))
-    go false e (inl g) ih = absurd (not_from_Decides (same_set s x) (decides_same s x) e g)
-    go false e (inr h) ih = ih h
+place_is s (x ∷ t) h =
+    let ih = place_is s t in
+    elim (cases_Bool (same_set s x)) [
+      | inl e ↦ rw e (ap Some (sym ((decides_same s x).0 e)))
+      | inr e ↦ rw e (elim h [ inl g ↦ absurd (not_from_Decides (same_set s x) (decides_same s x) e g) | inr i ↦ ih i ])
+    ]

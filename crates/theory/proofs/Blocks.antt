@@ -1,10 +1,9 @@
 -- The outermost block that occurs, and the candidates.
-use Rattle.std.proofs.Common.{◌≡◌, ℕ, suc, ◌-◌, ◌<◌, Bool, true, false, cond, ◌||◌, List, [], ◌∷◌, map, filter, sym, refl, ap, ◌∙◌, subst, inl, inr, arith}
+use Rattle.std.proofs.Common.{◌≡◌, ℕ, suc, ◌-◌, ◌<◌, true, false, ◌||◌, List, [], ◌∷◌, map, filter, sym, refl, ◌∙◌, subst, inl, inr, arith}
 use Rattle.std.specs.List.{AllByRecursion}
 use Rattle.std.proofs.lemmas.Bool.Decides.{nat_tests}
-use Rattle.std.proofs.lemmas.Bool.{cases_Bool}
+use Rattle.std.proofs.lemmas.Bool.{cases_Bool, cond_both, cond-false}
 use Rattle.qbf.specs.declared.Quantifier.{Quantifier}
-use Rattle.qbf.specs.declared.Quantifier.TheVariants.{Existential}
 use Rattle.qbf.specs.declared.Candidate.{Candidate}
 use Rattle.qbf.specs.Literals.{complement, positive, negative}
 use Rattle.qbf.specs.Lists.{In}
@@ -22,88 +21,65 @@ use Rattle.theory.proofs.Keeping.{size_falls}
 pub same_is : (q r : Quantifier) → same q r ≡ true → q ≡ r
 same_is q r e = grind (arith, nat_tests)
 
--- the variables of the first block
-head_outermost : (qs : List Quantifier) (v k : ℕ) (s : List (List ℕ)) (b : Block) (bs : List Block) → blocks qs v ≡ b ∷ bs → In k b.variables → Outermost b.quantifier qs v k s
-head_outermost [] v k s b bs e h = absurd (cc)
-head_outermost (q ∷ qs) v k s b bs e h = go (blocks qs (suc v)) refl e (head_outermost qs (suc v) k s)
-  where
-    go : (cs : List Block) → blocks qs (suc v) ≡ cs → ahead q v cs ≡ b ∷ bs →
-        ((b : Block) (bs : List Block) → blocks qs (suc v) ≡ b ∷ bs → In k b.variables → Outermost b.quantifier qs (suc v) k s) → Outermost b.quantifier (q ∷ qs) v k s
-    go [] f g ih = let w : record { quantifier = q; variables = v ∷ [] } ≡ b = cc in one (rw (← w) at h) (ap (λ (x : Block). x.quantifier) w)
-      where
-        one : In k (v ∷ []) → q ≡ b.quantifier → Outermost b.quantifier (q ∷ qs) v k s
-        one (inl i) j = inl (i, sym j)
-        one (inr i) j = absurd i
-    go (c ∷ cs) f g ih = joined (same q c.quantifier) refl g
-      where
-        joined : (t : Bool) → same q c.quantifier ≡ t →
-            cond t (record { quantifier = q; variables = v ∷ c.variables } ∷ cs) (record { quantifier = q; variables = v ∷ [] } ∷ c ∷ cs) ≡ b ∷ bs →
-            Outermost b.quantifier (q ∷ qs) v k s
-        joined true t g = let w : record { quantifier = q; variables = v ∷ c.variables } ≡ b = cc in two (rw (← w) at h) (ap (λ (x : Block). x.quantifier) w)
-          where
-            two : In k (v ∷ c.variables) → q ≡ b.quantifier → Outermost b.quantifier (q ∷ qs) v k s
-            two (inl i) j = inl (i, sym j)
-            two (inr i) j =
-                let r = ih c cs f i in
-                let u : c.quantifier ≡ b.quantifier = sym (same_is q c.quantifier t) ∙ j in
-                inr (inl (sym j), rw u at r)
-        joined false t g = let w : record { quantifier = q; variables = v ∷ [] } ≡ b = cc in two (rw (← w) at h) (ap (λ (x : Block). x.quantifier) w)
-          where
-            two : In k (v ∷ []) → q ≡ b.quantifier → Outermost b.quantifier (q ∷ qs) v k s
-            two (inl i) j = inl (i, sym j)
-            two (inr i) j = absurd i
+-- a block of one variable, and a block that one more variable joins
+abbrev pub alone : Quantifier → ℕ → Block
+alone q v = record { quantifier = q; variables = v ∷ [] }
 
--- the variables of the outermost block that occurs
-first_outermost : (qs : List Quantifier) (v k : ℕ) (s : List (List ℕ)) → In k (first_present (blocks qs v) s).variables → Outermost (first_present (blocks qs v) s).quantifier qs v k s
-first_outermost [] v k s h = absurd h
-first_outermost (q ∷ qs) v k s h = go (blocks qs (suc v)) refl (first_outermost qs (suc v) k s) h
-  where
-    gone : present v s ≡ false → absent v s
-    gone e = (grind (arith, nat_tests), grind (arith, nat_tests))
+abbrev pub joined : Quantifier → ℕ → Block → Block
+joined q v c = record { quantifier = q; variables = v ∷ c.variables }
 
-    go : (cs : List Block) → blocks qs (suc v) ≡ cs → (In k (first_present (blocks qs (suc v)) s).variables → Outermost (first_present (blocks qs (suc v)) s).quantifier qs (suc v) k s) →
-        In k (first_present (ahead q v cs) s).variables → Outermost (first_present (ahead q v cs) s).quantifier (q ∷ qs) v k s
-    go [] f ih h = one (present v s || false) refl h
-      where
-        one : (t : Bool) → (present v s || false) ≡ t → In k (cond {A = Block} t (record { quantifier = q; variables = v ∷ [] }) (record { quantifier = Existential; variables = [] })).variables →
-            Outermost (cond {A = Block} t (record { quantifier = q; variables = v ∷ [] }) (record { quantifier = Existential; variables = [] })).quantifier (q ∷ qs) v k s
-        one true e (inl i) = inl (i, refl)
-        one true e (inr i) = absurd i
-        one false e i = absurd i
-    go (c ∷ cs) f ih h = joined (same q c.quantifier) refl h
-      where
-        rest : (t : Bool) → some_present c.variables s ≡ false → present v s ≡ false → In k (first_present cs s).variables → Outermost (first_present cs s).quantifier (q ∷ qs) v k s
-        rest t e g i =
-            let w : first_present (blocks qs (suc v)) s ≡ first_present cs s = ap (λ (x : List Block). first_present x s) f ∙ ap (λ (x : Bool). cond x c (first_present cs s)) e in
-            let o : In k (first_present cs s).variables → Outermost (first_present cs s).quantifier qs (suc v) k s = subst (λ (x : Block). In k x.variables → Outermost x.quantifier qs (suc v) k s) w ih in
-            inr (inr (gone g), o i)
+-- the first block has another quantifier
+abbrev pub Other : Quantifier → List Block → Type 0
+Other q [] = Unit {0}
+Other q (c ∷ cs) = same q c.quantifier ≡ false
 
-        joined : (t : Bool) → same q c.quantifier ≡ t →
-            In k (first_present (cond t (record { quantifier = q; variables = v ∷ c.variables } ∷ cs) (record { quantifier = q; variables = v ∷ [] } ∷ c ∷ cs)) s).variables →
-            Outermost (first_present (cond t (record { quantifier = q; variables = v ∷ c.variables } ∷ cs) (record { quantifier = q; variables = v ∷ [] } ∷ c ∷ cs)) s).quantifier (q ∷ qs) v k s
-        joined true t h = two (present v s || some_present c.variables s) refl h
-          where
-            two : (u : Bool) → (present v s || some_present c.variables s) ≡ u → In k (cond {A = Block} u (record { quantifier = q; variables = v ∷ c.variables }) (first_present cs s)).variables →
-                Outermost (cond {A = Block} u (record { quantifier = q; variables = v ∷ c.variables }) (first_present cs s)).quantifier (q ∷ qs) v k s
-            two true e (inl i) = inl (i, refl)
-            two true e (inr i) = let r = head_outermost qs (suc v) k s c cs f i in inr (inl refl, subst (λ (p : Quantifier). Outermost p qs (suc v) k s) (sym (same_is q c.quantifier t)) r)
-            two false e i = rest true (grind (arith, nat_tests)) (grind (arith, nat_tests)) i
-        joined false t h = two (present v s || false) refl h
-          where
-            o : In k (first_present (c ∷ cs) s).variables → Outermost (first_present (c ∷ cs) s).quantifier qs (suc v) k s
-            o = subst (λ (x : List Block). In k (first_present x s).variables → Outermost (first_present x s).quantifier qs (suc v) k s) f ih
+-- one variable more begins a block, or joins the first
+pub by_ahead : (P : List Block → List Block → Type 0) (q : Quantifier) (v : ℕ) →
+    ((cs : List Block) → Other q cs → P cs (alone q v ∷ cs)) → ((c : Block) (cs : List Block) → q ≡ c.quantifier → P (c ∷ cs) (joined q v c ∷ cs)) →
+    (cs : List Block) → P cs (ahead q v cs)
+by_ahead P q v begun joins [] = begun [] tt
+by_ahead P q v begun joins (c ∷ cs) = cond_both (same q c.quantifier) _ _ (λ r. P (c ∷ cs) r) (λ e. joins c cs (same_is q c.quantifier e)) (λ e. begun (c ∷ cs) e)
 
-            two : (u : Bool) → (present v s || false) ≡ u → In k (cond {A = Block} u (record { quantifier = q; variables = v ∷ [] }) (first_present (c ∷ cs) s)).variables →
-                Outermost (cond {A = Block} u (record { quantifier = q; variables = v ∷ [] }) (first_present (c ∷ cs) s)).quantifier (q ∷ qs) v k s
-            two true e (inl i) = inl (i, refl)
-            two true e (inr i) = absurd i
-            two false e i = inr (inr (gone (grind (arith, nat_tests))), o i)
+module _ (k : ℕ) (s : List (List ℕ)) where
+  -- if k is of the block x, it may be split first
+  abbrev FirstOf : List Quantifier → ℕ → Block → Type 0
+  FirstOf qs v x = In k x.variables → Outermost x.quantifier qs v k s
+
+  -- the first block
+  head_outermost : (qs : List Quantifier) (v : ℕ) (b : Block) (bs : List Block) → blocks qs v ≡ b ∷ bs → FirstOf qs v b
+  head_outermost [] v b bs e = absurd (cc)
+  head_outermost (q ∷ qs) v b bs e =
+      let ih = head_outermost qs (suc v) in
+      by_ahead (λ cs r. blocks qs (suc v) ≡ cs → r ≡ b ∷ bs → FirstOf (q ∷ qs) v b) q v
+      (λ cs _ f g. let w : alone q v ≡ b = cc in subst (FirstOf (q ∷ qs) v) w (elim [ inl i ↦ inl (i, refl) | inr i ↦ absurd i ]))
+      (λ c cs j f g. let w : joined q v c ≡ b = cc in subst (FirstOf (q ∷ qs) v) w (elim [ inl i ↦ inl (i, refl) | inr i ↦ inr (inl refl, subst (λ (p : Quantifier). Outermost p qs (suc v) k s) (sym j) (ih c cs f i)) ]))
+      (blocks qs (suc v)) refl e
+
+  -- the outermost block that occurs
+  first_outermost : (qs : List Quantifier) (v : ℕ) → FirstOf qs v (first_present (blocks qs v) s)
+  first_outermost [] v = λ i. absurd i
+  first_outermost (q ∷ qs) v =
+      let ih = first_outermost qs (suc v) in
+      by_ahead (λ cs r. blocks qs (suc v) ≡ cs → FirstOf qs (suc v) (first_present cs s) → FirstOf (q ∷ qs) v (first_present r s)) q v
+      (λ cs _ f o.
+      cond_both (present v s || false) _ _ (FirstOf (q ∷ qs) v) (λ e. elim [ inl i ↦ inl (i, refl) | inr i ↦ absurd i ])
+      (λ e i. inr (inr (gone (grind (arith, nat_tests))), o i)))
+      (λ c cs j f o.
+      cond_both (present v s || some_present c.variables s) _ _ (FirstOf (q ∷ qs) v)
+      (λ e. elim [ inl i ↦ inl (i, refl) | inr i ↦ inr (inl refl, subst (λ (p : Quantifier). Outermost p qs (suc v) k s) (sym j) (head_outermost qs (suc v) c cs f i)) ])
+      (λ e i.
+      let skipped : some_present c.variables s ≡ false = grind (arith, nat_tests) in
+      inr (inr (gone (grind (arith, nat_tests))), subst (FirstOf qs (suc v)) (cond-false _ c (first_present cs s) skipped) o i)))
+      (blocks qs (suc v)) refl ih
+    where
+      gone : present v s ≡ false → absent v s
+      gone e = (grind (arith, nat_tests), grind (arith, nat_tests))
 
 -- any variable of the outermost block may be split first
 pub split_first : (prefix : List Quantifier) (s : List (List ℕ)) (x : ℕ) → In x (outermost prefix s).variables →
     value prefix 0 s ≡ combine (outermost prefix s).quantifier (value prefix 0 (assigned (negative x) s)) (value prefix 0 (assigned (positive x) s))
 split_first prefix s x h =
-    let f = value_first (outermost prefix s).quantifier prefix 0 x s (first_outermost prefix 0 x s h) in
+    let f = value_first (outermost prefix s).quantifier prefix 0 x s (first_outermost x s prefix 0 h) in
     let a = value_assigned_set (negative x) s prefix 0 in
     let b = value_assigned_set (positive x) s prefix 0 in
     cc
@@ -115,21 +91,16 @@ none_kept (x ∷ xs) s e = let ih = none_kept xs s in elim (cases_Bool (present 
 
 none_blocks : (bs : List Block) (s : List (List ℕ)) → some_present (first_present bs s).variables s ≡ false → AllByRecursion (λ b. some_present b.variables s ≡ false) bs
 none_blocks [] s e = tt
-none_blocks (b ∷ bs) s e = go (some_present b.variables s) refl e (none_blocks bs s)
-  where
-    go : (t : Bool) → some_present b.variables s ≡ t → some_present (cond t b (first_present bs s)).variables s ≡ false →
-        (some_present (first_present bs s).variables s ≡ false → AllByRecursion (λ b. some_present b.variables s ≡ false) bs) → AllByRecursion (λ b. some_present b.variables s ≡ false) (b ∷ bs)
-    go true f e ih = grind (arith, nat_tests)
-    go false f e ih = (f, ih e)
+none_blocks (b ∷ bs) s e =
+    let ih = none_blocks bs s in
+    cond_both (some_present b.variables s) b (first_present bs s) (λ x. some_present x.variables s ≡ false → AllByRecursion (λ b. some_present b.variables s ≡ false) (b ∷ bs))
+    (λ f e. absurd (grind (arith, nat_tests))) (λ f e. (f, ih e)) e
 
 pub none_ahead : (q : Quantifier) (v : ℕ) (s : List (List ℕ)) (cs : List Block) → AllByRecursion (λ b. some_present b.variables s ≡ false) (ahead q v cs) → absent v s × AllByRecursion (λ b. some_present b.variables s ≡ false) cs
-none_ahead q v s [] h = let f = h.0 in ((grind (arith, nat_tests), grind (arith, nat_tests)), tt)
-none_ahead q v s (c ∷ cs) h = joined (same q c.quantifier) h
-  where
-    joined : (t : Bool) → AllByRecursion (λ b. some_present b.variables s ≡ false) (cond t (record { quantifier = q; variables = v ∷ c.variables } ∷ cs) (record { quantifier = q; variables = v ∷ [] } ∷ c ∷ cs)) →
-        absent v s × AllByRecursion (λ b. some_present b.variables s ≡ false) (c ∷ cs)
-    joined true h = let f = h.0 in ((grind (arith, nat_tests), grind (arith, nat_tests)), (grind (arith, nat_tests), h.1))
-    joined false h = let f = h.0 in ((grind (arith, nat_tests), grind (arith, nat_tests)), h.1)
+none_ahead q v s =
+    by_ahead (λ cs r. AllByRecursion (λ b. some_present b.variables s ≡ false) r → absent v s × AllByRecursion (λ b. some_present b.variables s ≡ false) cs) q v
+    (λ cs _ h. let f = h.0 in ((grind (arith, nat_tests), grind (arith, nat_tests)), h.1))
+    (λ c cs _ h. let f = h.0 in ((grind (arith, nat_tests), grind (arith, nat_tests)), (grind (arith, nat_tests), h.1)))
 
 none_value : (qs : List Quantifier) (v : ℕ) (s : List (List ℕ)) → AllByRecursion (λ b. some_present b.variables s ≡ false) (blocks qs v) → value qs v s ≡ none s
 none_value [] v s h = refl

@@ -15,7 +15,7 @@ use Rattle.qbf.specs.Decision.{Refusal, full, spent, too_deep, Ending, verdict, 
 use Rattle.theory.specs.Deciding.{Overfull, Judged, DecisionRight, DecisionBlank}
 use Rattle.theory.proofs.Reduces.{reduce_unfolds, reduced_to, reduces_keeps}
 use Rattle.theory.proofs.Walking.{bare_right}
-use Rattle.theory.proofs.Tables.{in_append_left, in_append_right, gains_none, gains_more, gains_then, overfull_more, stops_gains, stands_later}
+use Rattle.theory.proofs.Tables.{in_append_left, in_append_right, gains_none, gains_more, gains_then, gains_join, overfull_more, stops_gains, stands_later}
 use Rattle.theory.proofs.Splitting.{combine_stops, combine_goes, Halves, reduced_made, reduced_splits, split_value, split_halves}
 
 -- reducing over a table is reducing, and the table gains nodes of the sets made
@@ -27,8 +27,7 @@ module _ (prefix : List Quantifier) where
   forced_made s l e = ap (λ (x : Reduced). x.made) (at_forced s l e)
 
   forced_gains : {t u v : Numbering} (s : List (List ℕ)) (l : ℕ) → step prefix s ≡ forced l → Gains t (setting l s) u → Gains u (reduce prefix (assigned l s)).made v → Gains t (reduce prefix s).made v
-  forced_gains s l e g h =
-      rw (forced_made s l e) (gains_then (gains_more (λ x. in_append_left x (setting l s) (reduce prefix (assigned l s)).made) g) (gains_more (λ x. in_append_right x (setting l s) (reduce prefix (assigned l s)).made) h))
+  forced_gains s l e g h = rw (forced_made s l e) (gains_join g h)
 
   pub reduces_done : {t u : Numbering} {s : List (List ℕ)} {a : Option Outcome} → ReducesIn prefix t s a u → (o : Outcome) → a ≡ Some o → ((reduce prefix s).outcome ≡ o) × Gains t (reduce prefix s).made u
   reduces_done (settles {t} {s} {b} e) o f = (ap (λ (x : Reduced). x.outcome) (reduce_unfolds prefix s ∙ ap (resume (reduce prefix) s) e) ∙ (cc), gains_none t _)
@@ -115,9 +114,7 @@ module _ {M : Type 0} (held : M → Pairs) (notes : M → ℕ → Bool → M →
   -- the first side, set
   first_gains : {t u v w : Numbering} {m : M} {s r : List (List ℕ)} {n x : ℕ} → Begun t m s r n x u → Makes u (setting (negative x) r) v → Gains v (walked (assigned (negative x) r)).made w →
       Gains t (walked s).made w
-  first_gains {r = r} {x = x} bg mk g =
-      let p = bg.halves.first_made in
-      gains_then bg.gains (gains_then (gains_more (λ y i. p y (in_append_left y (setting (negative x) r) _ i)) mk.gains) (gains_more (λ y i. p y (in_append_right y (setting (negative x) r) _ i)) g))
+  first_gains bg mk g = gains_then bg.gains (gains_more bg.halves.first_made (gains_join mk.gains g))
 
   first_overfull : {t u w : Numbering} {m : M} {s r : List (List ℕ)} {n x : ℕ} → Begun t m s r n x u → Overfull (walked (assigned (negative x) r)).made w → Overfull (walked s).made w
   first_overfull {r = r} {x = x} bg o = overfull_more (λ y i. bg.halves.first_made y (in_append_right y (setting (negative x) r) _ i)) o
@@ -129,9 +126,7 @@ module _ {M : Type 0} (held : M → Pairs) (notes : M → ℕ → Bool → M →
 
   second_gains : {t u : Numbering} {m : M} {s r : List (List ℕ)} {n x : ℕ} → Begun t m s r n x u → ends (outermost prefix r).quantifier (walked (assigned (negative x) r)).verdict ≡ false →
       {w y z : Numbering} → Gains t (walked s).made w → Makes w (setting (positive x) r) y → Gains y (walked (assigned (positive x) r)).made z → Gains t (walked s).made z
-  second_gains {r = r} {x = x} bg f g mk h =
-      let p = bg.halves.second_made f in
-      gains_then g (gains_then (gains_more (λ y i. p y (in_append_left y (setting (positive x) r) _ i)) mk.gains) (gains_more (λ y i. p y (in_append_right y (setting (positive x) r) _ i)) h))
+  second_gains bg f g mk h = gains_then g (gains_more (bg.halves.second_made f) (gains_join mk.gains h))
 
   -- each way of a decision, given what its inner decisions come to
   abbrev Sound : ℕ → ℕ → Numbering → List (List ℕ) → Ending → ℕ → Numbering → M → Type 0

@@ -12,7 +12,7 @@ use Rattle.qbf.specs.Numbering.{Numbering, Stops}
 use Rattle.qbf.specs.Decision.{Ending, ReducesIn, settles, sticks, forces, fills, Decides, by_reducing, full_reducing, recalled, by_allowance, by_depth, full_first, refused_first, first_only, full_second, refused_second, both_sides, Right}
 use Rattle.theory.specs.Making.{stopped, reducing, deciding, DecisionMakes}
 use Rattle.theory.proofs.Terms.{Subset}
-use Rattle.theory.proofs.Tables.{in_append, in_append_left, in_append_right, stops_some}
+use Rattle.theory.proofs.Tables.{in_append, in_append_left, append_more, stops_some}
 use Rattle.theory.proofs.Splitting.{reduced_made}
 use Rattle.theory.proofs.Deciding.{forced_made, right_later, Begun, begun, as_walked, judged}
 
@@ -27,10 +27,7 @@ reducing_part : {prefix : List Quantifier} {t u : Numbering} {s : List (List ℕ
 reducing_part (settles e) x i = absurd i
 reducing_part (sticks e) x i = absurd i
 reducing_part {prefix} (forces {s = s} {l} e m r) x i =
-    rw (forced_made prefix s l e) (elim (in_append x (setting l s) (reducing r) i) [
-      | inl j ↦ in_append_left x (setting l s) (reduce prefix (assigned l s)).made j
-      | inr j ↦ in_append_right x (setting l s) (reduce prefix (assigned l s)).made (reducing_part r x j)
-    ])
+    rw (forced_made prefix s l e) (append_more (setting l s) (reducing r) (reduce prefix (assigned l s)).made (reducing_part r) x i)
 reducing_part {prefix} (fills {s = s} {l} e m) x i =
     rw (forced_made prefix s l e) (in_append_left x (setting l s) (reduce prefix (assigned l s)).made (stops_some m x i))
 
@@ -42,21 +39,11 @@ module _ {M : Type 0} (held : M → Pairs) (notes : M → ℕ → Bool → M →
 
   module _ {t u : Numbering} {m : M} {s r : List (List ℕ)} {n x : ℕ} (bg : Begun held notes law pick picks prefix allowance t m s r n x u) where
     first_part : (more : List (List (List ℕ))) → Contained more (bare pick prefix (assigned (negative x) r)).made → Contained (setting (negative x) r ++ more) (bare pick prefix s).made
-    first_part more p = record {
-      each = λ y i. bg.halves.first_made y (elim (in_append y (setting (negative x) r) more i) [
-        | inl j ↦ in_append_left y (setting (negative x) r) (bare pick prefix (assigned (negative x) r)).made j
-        | inr j ↦ in_append_right y (setting (negative x) r) (bare pick prefix (assigned (negative x) r)).made (p.each y j)
-      ]);
-    }
+    first_part more p = record { each = λ y i. bg.halves.first_made y (append_more (setting (negative x) r) more (bare pick prefix (assigned (negative x) r)).made p.each y i) }
 
     second_part : (more : List (List (List ℕ))) → ends (outermost prefix r).quantifier (bare pick prefix (assigned (negative x) r)).verdict ≡ false →
         Contained more (bare pick prefix (assigned (positive x) r)).made → Contained (setting (positive x) r ++ more) (bare pick prefix s).made
-    second_part more g p = record {
-      each = λ y i. bg.halves.second_made g y (elim (in_append y (setting (positive x) r) more i) [
-        | inl j ↦ in_append_left y (setting (positive x) r) (bare pick prefix (assigned (positive x) r)).made j
-        | inr j ↦ in_append_right y (setting (positive x) r) (bare pick prefix (assigned (positive x) r)).made (p.each y j)
-      ]);
-    }
+    second_part more g p = record { each = λ y i. bg.halves.second_made g y (append_more (setting (positive x) r) more (bare pick prefix (assigned (positive x) r)).made p.each y i) }
 
     first_stopped : {v : Numbering} (st : Stops u (setting (negative x) r) v) → Contained (stopped st) (bare pick prefix s).made
     first_stopped st = record { each = λ y i. bg.halves.first_made y (in_append_left y (setting (negative x) r) (bare pick prefix (assigned (negative x) r)).made (stops_some st y i)) }

@@ -1,48 +1,48 @@
 -- Blocks are longest runs, and the candidates are found by one look along the prefix.
-use Rattle.std.proofs.Common.{◌≡◌, ℕ, suc, ◌<◌, Bool, true, false, cond, List, [], ◌∷◌, ◌++◌, map, length, filter, sym, refl, ap, ◌∙◌, subst, arith}
+use Rattle.std.proofs.Common.{◌≡◌, ℕ, suc, ◌<◌, Bool, true, false, cond, List, [], ◌∷◌, ◌++◌, map, length, filter, sym, refl, ap, ◌∙◌, subst, inl, inr, arith}
 use Rattle.std.specs.List.{AllByRecursion}
 use Rattle.std.proofs.lemmas.Bool.Decides.{nat_tests}
+use Rattle.std.proofs.lemmas.Bool.{cases_Bool}
 use Rattle.qbf.specs.declared.Quantifier.{Quantifier}
 use Rattle.qbf.specs.Reduce.{same}
 use Rattle.qbf.specs.Walk.{Block, ahead, blocks, present, some_present, first_present, candidate}
 use Rattle.theory.specs.Blocks.{unrolled, Alternate, BlocksRun, neighbours, scanned, owner, CandidatesScanned}
-use Rattle.theory.proofs.Blocks.{same_is}
+use Rattle.theory.proofs.Blocks.{alone, joined, Other, by_ahead}
 
 same_self : (q : Quantifier) → same q q ≡ true
 same_self q = grind (arith, nat_tests)
 
 -- one variable more
-ahead_all : (q : Quantifier) (v : ℕ) (cs : List Block) → unrolled (ahead q v cs) ≡ (v, q) ∷ unrolled cs
-ahead_all q v [] = refl
-ahead_all q v (c ∷ cs) = go (same q c.quantifier) refl
-  where
-    go : (t : Bool) → same q c.quantifier ≡ t →
-        unrolled (cond t (record { quantifier = q; variables = v ∷ c.variables } ∷ cs) (record { quantifier = q; variables = v ∷ [] } ∷ c ∷ cs)) ≡ (v, q) ∷ unrolled (c ∷ cs)
-    go true e = ap (λ (p : Quantifier). (v, q) ∷ (map (λ x. (x, p)) c.variables ++ unrolled cs)) (same_is q c.quantifier e)
-    go false e = refl
+module _ (q : Quantifier) (v : ℕ) where
+  ahead_all : (cs : List Block) → unrolled (ahead q v cs) ≡ (v, q) ∷ unrolled cs
+  ahead_all =
+      by_ahead (λ cs r. unrolled r ≡ (v, q) ∷ unrolled cs) q v
+      (λ cs _. refl)
+      (λ c cs e. ap (λ (p : Quantifier). (v, q) ∷ (map (λ x. (x, p)) c.variables ++ unrolled cs)) e)
 
-ahead_filled : (q : Quantifier) (v : ℕ) (cs : List Block) → AllByRecursion (λ b. 0 < length b.variables) cs → AllByRecursion (λ b. 0 < length b.variables) (ahead q v cs)
-ahead_filled q v [] h = (omega arith, tt)
-ahead_filled q v (c ∷ cs) h = go (same q c.quantifier)
-  where
-    go : (t : Bool) → AllByRecursion (λ b. 0 < length b.variables) (cond t (record { quantifier = q; variables = v ∷ c.variables } ∷ cs) (record { quantifier = q; variables = v ∷ [] } ∷ c ∷ cs))
-    go true = (omega arith, h.1)
-    go false = (omega arith, h)
+  ahead_filled : (cs : List Block) → AllByRecursion (λ b. 0 < length b.variables) cs → AllByRecursion (λ b. 0 < length b.variables) (ahead q v cs)
+  ahead_filled =
+      by_ahead (λ cs r. AllByRecursion (λ b. 0 < length b.variables) cs → AllByRecursion (λ b. 0 < length b.variables) r) q v
+      (λ cs _ h. (omega arith, h))
+      (λ c cs _ h. (omega arith, h.1))
 
-ahead_alternate : (q : Quantifier) (v : ℕ) (cs : List Block) → Alternate cs → Alternate (ahead q v cs)
-ahead_alternate q v [] h = tt
-ahead_alternate q v (c ∷ cs) h = go (same q c.quantifier) refl
-  where
-    joined : same q c.quantifier ≡ true → (ds : List Block) → Alternate (c ∷ ds) → Alternate (record { quantifier = q; variables = v ∷ c.variables } ∷ ds)
-    joined e [] h = tt
-    joined e (d ∷ ds) h = (λ f. h.0 (sym (same_is q c.quantifier e) ∙ f), h.1)
+  alone_alternates : (cs : List Block) → Other q cs → Alternate cs → Alternate (alone q v ∷ cs)
+  alone_alternates [] o h = tt
+  alone_alternates (c ∷ cs) o h = (λ e. let w : same q q ≡ false = rw (← e) at o in let k = same_self q in absurd (cc), h)
 
-    differs : same q c.quantifier ≡ false → q ≡ c.quantifier → ⊥
-    differs e f = let g : same q q ≡ false = rw (← f) at e in let k = same_self q in grind (arith, nat_tests)
+  joined_alternates : (c : Block) (cs : List Block) → q ≡ c.quantifier → Alternate (c ∷ cs) → Alternate (joined q v c ∷ cs)
+  joined_alternates c [] e h = tt
+  joined_alternates c (d ∷ cs) e h = (λ f. h.0 (sym e ∙ f), h.1)
 
-    go : (t : Bool) → same q c.quantifier ≡ t → Alternate (cond t (record { quantifier = q; variables = v ∷ c.variables } ∷ cs) (record { quantifier = q; variables = v ∷ [] } ∷ c ∷ cs))
-    go true e = joined e cs h
-    go false e = (differs e, h)
+  ahead_alternate : (cs : List Block) → Alternate cs → Alternate (ahead q v cs)
+  ahead_alternate = by_ahead (λ cs r. Alternate cs → Alternate r) q v alone_alternates joined_alternates
+
+  head_quantifier : (cs : List Block) (b : Block) (bs : List Block) → ahead q v cs ≡ b ∷ bs → b.quantifier ≡ q
+  head_quantifier cs b bs =
+      by_ahead (λ _ r. r ≡ b ∷ bs → b.quantifier ≡ q) q v
+      (λ cs _ e. let w : alone q v ≡ b = cc in ap (λ (x : Block). x.quantifier) (sym w))
+      (λ c cs _ e. let w : joined q v c ≡ b = cc in ap (λ (x : Block). x.quantifier) (sym w))
+      cs
 
 pub blocks_run : BlocksRun
 blocks_run [] v = record { all = refl; filled = tt; longest = tt }
@@ -54,116 +54,78 @@ blocks_run (q ∷ prefix) v =
       longest = ahead_alternate q v (blocks prefix (suc v)) ih.longest;
     }
 
--- the first block
-head_quantifier : (q : Quantifier) (v : ℕ) (cs : List Block) (b : Block) (bs : List Block) → ahead q v cs ≡ b ∷ bs → b.quantifier ≡ q
-head_quantifier q v [] b bs e = let w : record { quantifier = q; variables = v ∷ [] } ≡ b = cc in ap (λ (x : Block). x.quantifier) (sym w)
-head_quantifier q v (c ∷ cs) b bs e = go (same q c.quantifier) e
-  where
-    go : (t : Bool) → cond t (record { quantifier = q; variables = v ∷ c.variables } ∷ cs) (record { quantifier = q; variables = v ∷ [] } ∷ c ∷ cs) ≡ b ∷ bs → b.quantifier ≡ q
-    go true e = let w : record { quantifier = q; variables = v ∷ c.variables } ≡ b = cc in ap (λ (x : Block). x.quantifier) (sym w)
-    go false e = let w : record { quantifier = q; variables = v ∷ [] } ≡ b = cc in ap (λ (x : Block). x.quantifier) (sym w)
+module _ (s : List (List ℕ)) where
+  abbrev kept : List ℕ → List ℕ
+  kept xs = filter (λ x. present x s) xs
 
--- of the first block, the variables that occur
-head_run : (prefix : List Quantifier) (v : ℕ) (s : List (List ℕ)) (b : Block) (bs : List Block) → blocks prefix v ≡ b ∷ bs → filter (λ x. present x s) b.variables ≡ neighbours b.quantifier prefix v s
-head_run [] v s b bs e = absurd (cc)
-head_run (q ∷ prefix) v s b bs e =
-    subst (λ (p : Quantifier). filter (λ x. present x s) b.variables ≡ neighbours p (q ∷ prefix) v s) (sym (head_quantifier q v (blocks prefix (suc v)) b bs e))
-    (go prefix (blocks prefix (suc v)) refl e (head_run prefix (suc v) s) ∙ sym (ap (λ (t : Bool). cond t (cond (present v s) (v ∷ neighbours q prefix (suc v) s) (neighbours q prefix (suc v) s)) []) (same_self q)))
-  where
-    keep : (xs : List ℕ) (rest : List ℕ) → filter (λ x. present x s) xs ≡ rest → filter (λ x. present x s) (v ∷ xs) ≡ cond (present v s) (v ∷ rest) rest
-    keep xs rest f = ap (λ (ys : List ℕ). cond (present v s) (v ∷ ys) ys) f
+  -- where the first block has another quantifier, no neighbour is bound by this one
+  no_neighbours : (q : Quantifier) (prefix : List Quantifier) (v : ℕ) → Other q (blocks prefix v) → neighbours q prefix v s ≡ []
+  no_neighbours q [] v o = refl
+  no_neighbours q (r ∷ prefix) v o =
+      let differs : same q r ≡ false = by_ahead (λ _ bs. Other q bs → same q r ≡ false) r v (λ cs _ k. k) (λ c cs _ k. k) (blocks prefix (suc v)) o in
+      rw differs
 
-    other : (p : List Quantifier) (c : Block) (cs : List Block) → blocks p (suc v) ≡ c ∷ cs → same q c.quantifier ≡ false → neighbours q p (suc v) s ≡ []
-    other [] c cs f g = refl
-    other (r ∷ p) c cs f g =
-        let h = head_quantifier r (suc v) (blocks p (suc (suc v))) c cs f in
-        let i : same q r ≡ false = rw h at g in
-        ap (λ (t : Bool). cond t (cond (present (suc v) s) (suc v ∷ neighbours q p (suc (suc v)) s) (neighbours q p (suc (suc v)) s)) []) i
+  -- of the first block, the variables that occur
+  abbrev Run : List Quantifier → ℕ → Block → Type 0
+  Run prefix v b = kept b.variables ≡ neighbours b.quantifier prefix v s
 
-    none_left : (p : List Quantifier) → blocks p (suc v) ≡ [] → neighbours q p (suc v) s ≡ []
-    none_left [] f = refl
-    none_left (r ∷ p) f = absurd (some (blocks p (suc (suc v))) f)
-      where
-        some : (cs : List Block) → ahead r (suc v) cs ≡ [] → ⊥
-        some [] f = cc
-        some (c ∷ cs) f = at (same r c.quantifier) f
-          where
-            at : (t : Bool) → cond t (record { quantifier = r; variables = suc v ∷ c.variables } ∷ cs) (record { quantifier = r; variables = suc v ∷ [] } ∷ c ∷ cs) ≡ [] → ⊥
-            at true f = cc
-            at false f = cc
+  head_run : (prefix : List Quantifier) (v : ℕ) (b : Block) (bs : List Block) → blocks prefix v ≡ b ∷ bs → Run prefix v b
+  head_run [] v b bs e = absurd (cc)
+  head_run (q ∷ prefix) v b bs e =
+      let ih = head_run prefix (suc v) in
+      by_ahead (λ cs r. blocks prefix (suc v) ≡ cs → r ≡ b ∷ bs → Run (q ∷ prefix) v b) q v
+      (λ cs o f g.
+      let w : alone q v ≡ b = cc in
+      subst (Run (q ∷ prefix) v) w (rw (same_self q, no_neighbours q prefix (suc v) (rw f o))))
+      (λ c cs j f g.
+      let w : joined q v c ≡ b = cc in
+      let i : kept c.variables ≡ neighbours q prefix (suc v) s = ih c cs f ∙ ap (λ (r : Quantifier). neighbours r prefix (suc v) s) (sym j) in
+      subst (Run (q ∷ prefix) v) w (rw (same_self q, i)))
+      (blocks prefix (suc v)) refl e
 
-    go : (p : List Quantifier) (cs : List Block) → blocks p (suc v) ≡ cs → ahead q v cs ≡ b ∷ bs →
-        ((b : Block) (bs : List Block) → blocks p (suc v) ≡ b ∷ bs → filter (λ x. present x s) b.variables ≡ neighbours b.quantifier p (suc v) s) →
-        filter (λ x. present x s) b.variables ≡ cond (present v s) (v ∷ neighbours q p (suc v) s) (neighbours q p (suc v) s)
-    go p [] f g ih =
-        let w : record { quantifier = q; variables = v ∷ [] } ≡ b = cc in
-        ap (λ (x : Block). filter (λ y. present y s) x.variables) (sym w) ∙ keep [] (neighbours q p (suc v) s) (sym (none_left p f))
-    go p (c ∷ cs) f g ih = joined (same q c.quantifier) refl g
-      where
-        joined : (t : Bool) → same q c.quantifier ≡ t →
-            cond t (record { quantifier = q; variables = v ∷ c.variables } ∷ cs) (record { quantifier = q; variables = v ∷ [] } ∷ c ∷ cs) ≡ b ∷ bs →
-            filter (λ x. present x s) b.variables ≡ cond (present v s) (v ∷ neighbours q p (suc v) s) (neighbours q p (suc v) s)
-        joined true t g =
-            let w : record { quantifier = q; variables = v ∷ c.variables } ≡ b = cc in
-            let i : filter (λ x. present x s) c.variables ≡ neighbours q p (suc v) s = ih c cs f ∙ ap (λ (r : Quantifier). neighbours r p (suc v) s) (sym (same_is q c.quantifier t)) in
-            ap (λ (x : Block). filter (λ y. present y s) x.variables) (sym w) ∙ keep c.variables (neighbours q p (suc v) s) i
-        joined false t g =
-            let w : record { quantifier = q; variables = v ∷ [] } ≡ b = cc in
-            ap (λ (x : Block). filter (λ y. present y s) x.variables) (sym w) ∙ keep [] (neighbours q p (suc v) s) (sym (other p c cs f t))
+  -- the outermost block that occurs, against one look along the prefix
+  record Found (b : Block) (prefix : List Quantifier) (v : ℕ) : Type 0 where
+    variables : kept b.variables ≡ scanned prefix v s
+    quantifier : b.quantifier ≡ owner prefix v s
 
--- the outermost block that occurs, against one look along the prefix
-pub record Found (bs : List Block) (prefix : List Quantifier) (v : ℕ) (s : List (List ℕ)) : Type 0 where
-  pub variables : filter (λ x. present x s) (first_present bs s).variables ≡ scanned prefix v s
-  pub quantifier : (first_present bs s).quantifier ≡ owner prefix v s
+  -- a variable that does not occur changes nothing
+  abbrev Alike : Block → Block → Type 0
+  Alike b c = (kept b.variables ≡ kept c.variables) × (b.quantifier ≡ c.quantifier)
 
-found : (prefix : List Quantifier) (v : ℕ) (s : List (List ℕ)) → Found (blocks prefix v) prefix v s
-found [] v s = record { variables = refl; quantifier = refl }
-found (q ∷ prefix) v s = go (present v s) refl (found prefix (suc v) s)
-  where
-    -- a variable that does not occur changes nothing
-    skipped : present v s ≡ false → (cs : List Block) →
-        (filter (λ x. present x s) (first_present (ahead q v cs) s).variables ≡ filter (λ x. present x s) (first_present cs s).variables) × ((first_present (ahead q v cs) s).quantifier ≡ (first_present cs s).quantifier)
-    skipped e [] = rw e (refl, refl)
-    skipped e (c ∷ cs) = at (same q c.quantifier) refl
-      where
-        both : same q c.quantifier ≡ true → (u : Bool) → some_present c.variables s ≡ u →
-            (filter (λ x. present x s) (cond {A = Block} u (record { quantifier = q; variables = v ∷ c.variables }) (first_present cs s)).variables ≡ filter (λ x. present x s) (cond {A = Block} u c (first_present cs s)).variables) ×
-            ((cond {A = Block} u (record { quantifier = q; variables = v ∷ c.variables }) (first_present cs s)).quantifier ≡ (cond {A = Block} u c (first_present cs s)).quantifier)
-        both g true f = (ap (λ (t : Bool). cond t (v ∷ filter (λ x. present x s) c.variables) (filter (λ x. present x s) c.variables)) e, same_is q c.quantifier g)
-        both g false f = (refl, refl)
+  skipped : (q : Quantifier) (v : ℕ) → present v s ≡ false → (cs : List Block) → Alike (first_present (ahead q v cs) s) (first_present cs s)
+  skipped q v e =
+      by_ahead (λ cs r. Alike (first_present r s) (first_present cs s)) q v
+      (λ cs _. rw e (refl, refl))
+      (λ c cs j. rw e (both c cs j (some_present c.variables s)))
+    where
+      both : (c : Block) (cs : List Block) → q ≡ c.quantifier → (u : Bool) → Alike (cond {A = Block} u (joined q v c) (first_present cs s)) (cond {A = Block} u c (first_present cs s))
+      both c cs j true = (rw e, j)
+      both c cs j false = (refl, refl)
 
-        at : (t : Bool) → same q c.quantifier ≡ t →
-            (filter (λ x. present x s) (first_present (cond t (record { quantifier = q; variables = v ∷ c.variables } ∷ cs) (record { quantifier = q; variables = v ∷ [] } ∷ c ∷ cs)) s).variables ≡ filter (λ x. present x s) (first_present (c ∷ cs) s).variables) ×
-            ((first_present (cond t (record { quantifier = q; variables = v ∷ c.variables } ∷ cs) (record { quantifier = q; variables = v ∷ [] } ∷ c ∷ cs)) s).quantifier ≡ (first_present (c ∷ cs) s).quantifier)
-        at true g = rw e (both g (some_present c.variables s) refl)
-        at false g = rw e (refl, refl)
+  -- a variable that occurs begins the first block
+  begins : (q : Quantifier) (v : ℕ) → present v s ≡ true → (cs : List Block) → (b : Block) × (bs : List Block) × (ahead q v cs ≡ b ∷ bs) × (first_present (ahead q v cs) s ≡ b)
+  begins q v e =
+      by_ahead (λ cs r. (b : Block) × (bs : List Block) × (r ≡ b ∷ bs) × (first_present r s ≡ b)) q v
+      (λ cs _. (alone q v, cs, refl, rw e))
+      (λ c cs _. (joined q v c, cs, refl, rw e))
 
-    -- a variable that occurs begins the block
-    begins : present v s ≡ true → (cs : List Block) → (b : Block) × (bs : List Block) × (ahead q v cs ≡ b ∷ bs) × (first_present (ahead q v cs) s ≡ b)
-    begins e [] = (record { quantifier = q; variables = v ∷ [] }, [], refl, rw e)
-    begins e (c ∷ cs) = at (same q c.quantifier)
-      where
-        at : (t : Bool) → (b : Block) × (bs : List Block) ×
-            (cond t (record { quantifier = q; variables = v ∷ c.variables } ∷ cs) (record { quantifier = q; variables = v ∷ [] } ∷ c ∷ cs) ≡ b ∷ bs) ×
-            (first_present (cond t (record { quantifier = q; variables = v ∷ c.variables } ∷ cs) (record { quantifier = q; variables = v ∷ [] } ∷ c ∷ cs)) s ≡ b)
-        at true = (record { quantifier = q; variables = v ∷ c.variables }, cs, refl, rw e)
-        at false = (record { quantifier = q; variables = v ∷ [] }, c ∷ cs, refl, rw e)
-
-    here : present v s ≡ true → neighbours q (q ∷ prefix) v s ≡ scanned (q ∷ prefix) v s
-    here e = rw (same_self q, e)
-
-    go : (t : Bool) → present v s ≡ t → Found (blocks prefix (suc v)) prefix (suc v) s → Found (blocks (q ∷ prefix) v) (q ∷ prefix) v s
-    go false e ih =
-        let k = skipped e (blocks prefix (suc v)) in
-        record { variables = k.0 ∙ ih.variables ∙ sym (ap (λ (t : Bool). cond t (v ∷ neighbours q prefix (suc v) s) (scanned prefix (suc v) s)) e); quantifier = k.1 ∙ ih.quantifier ∙ sym (ap (λ (t : Bool). cond t q (owner prefix (suc v) s)) e) }
-    go true e ih =
-        let r = begins e (blocks prefix (suc v)) in
-        let b : Block = r.0 in
-        let h = head_quantifier q v (blocks prefix (suc v)) b r.1 r.2 in
-        record {
-          variables = ap (λ (x : Block). filter (λ y. present y s) x.variables) r.3 ∙ head_run (q ∷ prefix) v s b r.1 r.2 ∙ ap (λ (p : Quantifier). neighbours p (q ∷ prefix) v s) h ∙ here e;
-          quantifier = ap (λ (x : Block). x.quantifier) r.3 ∙ h ∙ sym (ap (λ (t : Bool). cond t q (owner prefix (suc v) s)) e);
-        }
+  found : (prefix : List Quantifier) (v : ℕ) → Found (first_present (blocks prefix v) s) prefix v
+  found [] v = record { variables = refl; quantifier = refl }
+  found (q ∷ prefix) v =
+      let ih = found prefix (suc v) in
+      elim (cases_Bool (present v s)) [
+        | inl e ↦
+            let r = begins q v e (blocks prefix (suc v)) in
+            let h = head_quantifier q v (blocks prefix (suc v)) r.0 r.1 r.2 in
+            let run : kept r.0.variables ≡ neighbours r.0.quantifier (q ∷ prefix) v s = head_run (q ∷ prefix) v r.0 r.1 r.2 in
+            record {
+              variables = ap (λ (x : Block). kept x.variables) r.3 ∙ run ∙ ap (λ (p : Quantifier). neighbours p (q ∷ prefix) v s) h ∙ rw (same_self q, e);
+              quantifier = ap (λ (x : Block). x.quantifier) r.3 ∙ h ∙ rw e;
+            }
+        | inr e ↦
+            let k = skipped q v e (blocks prefix (suc v)) in
+            record { variables = k.0 ∙ ih.variables ∙ rw e; quantifier = k.1 ∙ ih.quantifier ∙ rw e }
+      ]
 
 pub candidates_scanned : CandidatesScanned
-candidates_scanned prefix s = let f = found prefix 0 s in (ap (map (candidate s)) f.variables, f.quantifier)
+candidates_scanned prefix s = let f = found s prefix 0 in (ap (map (candidate s)) f.variables, f.quantifier)

@@ -1,6 +1,7 @@
 -- Setting a literal by four sets is setting it clause by clause.
-use Rattle.std.proofs.Common.{◌≡◌, ℕ, Bool, true, false, cond, List, [], ◌∷◌, sym, refl, subst, inl, inr, arith}
+use Rattle.std.proofs.Common.{◌≡◌, ℕ, false, List, [], ◌∷◌, sym, refl, subst, inl, inr, arith}
 use Rattle.std.specs.List.{AllByRecursion}
+use Rattle.std.proofs.lemmas.Bool.{cases_Bool}
 use Rattle.std.proofs.lemmas.Bool.Decides.{nat_tests}
 use Rattle.qbf.specs.declared.Quantifier.{Quantifier}
 use Rattle.qbf.specs.Literals.{complement}
@@ -14,13 +15,12 @@ use Rattle.theory.proofs.Truths.{value_as_set}
 
 in_assign : (l : ℕ) (x : List ℕ) (s : List (List ℕ)) → In x (assign l s) → (c : List ℕ) × In c s × (mem l c ≡ false) × (x ≡ without (complement l) c)
 in_assign l x [] h = absurd h
-in_assign l x (c ∷ s) h = go (mem l c) refl (in_assign l x s) h
-  where
-    go : (b : Bool) → mem l c ≡ b → (In x (assign l s) → (c : List ℕ) × In c s × (mem l c ≡ false) × (x ≡ without (complement l) c)) →
-        In x (cond b (assign l s) (without (complement l) c ∷ assign l s)) → (d : List ℕ) × In d (c ∷ s) × (mem l d ≡ false) × (x ≡ without (complement l) d)
-    go true e ih h = let r = ih h in (r.0, inr r.1, r.2, r.3)
-    go false e ih (inl f) = (c, inl refl, e, f)
-    go false e ih (inr h) = let r = ih h in (r.0, inr r.1, r.2, r.3)
+in_assign l x (c ∷ s) h =
+    let ih = in_assign l x s in
+    elim (cases_Bool (mem l c)) [
+      | inl e ↦ let r = ih (rw e at h) in (r.0, inr r.1, r.2, r.3)
+      | inr e ↦ elim (rw e at h) [ inl f ↦ (c, inl refl, e, f) | inr i ↦ let r = ih i in (r.0, inr r.1, r.2, r.3) ]
+    ]
 
 assign_in : (l : ℕ) (c : List ℕ) (s : List (List ℕ)) → In c s → mem l c ≡ false → In (without (complement l) c) (assign l s)
 assign_in l c [] h e = absurd h

@@ -21,6 +21,9 @@ in_append x [] ys h = inr h
 in_append x (y ∷ xs) ys (inl e) = inl (inl e)
 in_append x (y ∷ xs) ys (inr h) = elim (in_append x xs ys h) [ inl i ↦ inl (inr i) | inr i ↦ inr i ]
 
+pub append_more : {A : Type 0} (xs ys zs : List A) → Subset ys zs → Subset (xs ++ ys) (xs ++ zs)
+append_more xs ys zs p x i = elim (in_append x xs ys i) [ inl j ↦ in_append_left x xs zs j | inr j ↦ in_append_right x xs zs (p x j) ]
+
 pub among_more : (xs ys : List (List (List ℕ))) → Subset xs ys → (x : List (List ℕ)) → Among xs x → Among ys x
 among_more xs ys p x a = (a.0, p a.0 a.1, a.2)
 
@@ -37,15 +40,15 @@ gains_then {t} {u} {v} {sets} g h = record {
   nodes = All-append (Among sets) g.added h.added g.nodes h.nodes;
 }
 
+pub gains_join : {t u v : Numbering} {xs ys : List (List (List ℕ))} → Gains t xs u → Gains u ys v → Gains t (xs ++ ys) v
+gains_join {xs = xs} {ys} g h = gains_then (gains_more (λ x. in_append_left x xs ys) g) (gains_more (λ x. in_append_right x xs ys) h)
+
 pub overfull_more : {xs ys : List (List (List ℕ))} {t : Numbering} → Subset xs ys → Overfull xs t → Overfull ys t
 overfull_more {xs} {ys} p o = record { full = o.full; apart = o.apart; lacking = (o.lacking.0, among_more xs ys p o.lacking.0 o.lacking.1, o.lacking.2) }
 
 -- the sets that were made, and the one that could not be, are some of those asked for
 pub stops_some : {t u : Numbering} {sets : List (List (List ℕ))} (p : Stops t sets u) → Subset (p.made ++ (p.hand ∷ [])) sets
-stops_some p s i = rw p.order (elim (in_append s p.made (p.hand ∷ []) i) [
-  | inl j ↦ in_append_left s p.made (p.hand ∷ p.rest) j
-  | inr j ↦ in_append_right s p.made (p.hand ∷ p.rest) (elim j [ inl e ↦ inl e | inr h ↦ absurd h ])
-])
+stops_some p s i = rw p.order (append_more p.made (p.hand ∷ []) (p.hand ∷ p.rest) (λ x. elim [ inl e ↦ inl e | inr h ↦ absurd h ]) s i)
 
 pub stops_gains : {t u : Numbering} {sets : List (List (List ℕ))} → Stops t sets u → Gains t sets u × Overfull sets u
 stops_gains p = (

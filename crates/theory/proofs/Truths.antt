@@ -1,7 +1,7 @@
 -- The value by which literals are true: sets that entail one another, and splits on a literal.
 use Rattle.std.proofs.Common.{◌≡◌, ℕ, suc, ◌/◌, ◌≤◌, Bool, true, false, not, ◌&&◌, ◌||◌, eqb, ◌⊎◌, List, [], ◌∷◌, sym, refl, ◌∙◌, inl, inr, arith}
 use Rattle.std.proofs.lemmas.Bool.Decides.{nat_tests}
-use Rattle.std.proofs.lemmas.Bool.{cases_eq}
+use Rattle.std.proofs.lemmas.Bool.{cases_eq, cases_Bool}
 use Rattle.qbf.specs.declared.Quantifier.{Quantifier}
 use Rattle.qbf.specs.declared.Quantifier.TheVariants.{Existential, Universal}
 use Rattle.qbf.specs.Literals.{complement, positive, negative}
@@ -75,11 +75,9 @@ true_clause e (y ∷ c) x h p = let ih = true_clause e c x in grind (arith, nat_
 
 pub true_literal : (e : Truth) (c : List ℕ) → clause_true e c ≡ true → (x : ℕ) × In x c × (e x ≡ true)
 true_literal e [] p = grind (arith, nat_tests)
-true_literal e (y ∷ c) p = go (e y) refl (true_literal e c)
-  where
-    go : (b : Bool) → e y ≡ b → (clause_true e c ≡ true → (x : ℕ) × In x c × (e x ≡ true)) → (x : ℕ) × In x (y ∷ c) × (e x ≡ true)
-    go true h f = (y, inl refl, h)
-    go false h f = let r = f (grind (arith, nat_tests)) in (r.0, inr r.1, r.2)
+true_literal e (y ∷ c) p =
+    let ih = true_literal e c in
+    elim (cases_Bool (e y)) [ inl h ↦ (y, inl refl, h) | inr h ↦ let r = ih (grind (arith, nat_tests)) in (r.0, inr r.1, r.2) ]
 
 pub set_clause : (e : Truth) (s : List (List ℕ)) (c : List ℕ) → set_true e s ≡ true → In c s → clause_true e c ≡ true
 set_clause e [] c p h = absurd h

@@ -1,8 +1,8 @@
 -- Memos as plain lists of pairs, so that decisions compute: the list after a note, for each of the delivered memos.
-use Rattle.std.specs.Prelude.{ℕ, ◌%◌, Bool, cond, List, [], ◌∷◌, ◌++◌, map, length, is_some, ◌==◌, nat_lt}
+use Rattle.std.specs.Prelude.{ℕ, ◌%◌, Bool, cond, List, [], ◌∷◌, ◌++◌, length, is_some, ◌==◌, nat_lt}
 use Rattle.qbf.specs.Lists.{Distinct}
 use Rattle.memos.specs.declared.pair.Pair.{Pair}
-use Rattle.memos.specs.Rows.{verdict_among}
+use Rattle.memos.specs.Rows.{verdict_among, numbers_of}
 use Rattle.memos.specs.Notes.{BlankNotes, SlottedNotes, KeepingNotes}
 
 -- the blank memo never holds a pair
@@ -36,10 +36,7 @@ BlankNoted = (ps : List Pair) (n : ℕ) (v : Bool) → BlankNotes (verdict_among
 abbrev pub SlottedNoted : Type 0
 SlottedNoted = (ps : List Pair) (n : ℕ) (v : Bool) → SlottedNotes (verdict_among ps) n v (verdict_among (note_slotted ps n v))
 
-abbrev pub numbers : List Pair → List ℕ
-numbers ps = map (λ p. p.number) ps
-
 abbrev pub KeepingNoted : Type 0
 KeepingNoted =
-    (ps : List Pair) → Distinct (numbers ps) → (n : ℕ) (v : Bool) →
-    KeepingNotes (verdict_among ps) n v (verdict_among (note_keeping ps n v)) × Distinct (numbers (note_keeping ps n v))
+    (ps : List Pair) → Distinct (numbers_of ps) → (n : ℕ) (v : Bool) →
+    KeepingNotes (verdict_among ps) n v (verdict_among (note_keeping ps n v)) × Distinct (numbers_of (note_keeping ps n v))
