@@ -8,7 +8,7 @@ use std::fmt;
 use table::Full;
 use writer::TooShort;
 
-#[derive(Clone, Copy)]
+#[derive(Clone, Copy, PartialEq, Eq, Debug)]
 pub enum Unwritten {
     // the reader refuses the text
     Unread(ReadFault),
