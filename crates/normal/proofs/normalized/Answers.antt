@@ -1,9 +1,6 @@
-use Rattle.std.proofs.Common.{ℕ, ◌*◌, ◌<◌, ◌≤◌, List, length, sym, refl, subst}
-use Rattle.std.specs.List.{AllByRecursion}
+use Rattle.std.proofs.Common.{refl}
 use Rattle.std.proofs.lemmas.Result.{err_from_is_err_and}
-use Rattle.formula.specs.Views.{reading, bindings_of}
-use Rattle.rendering.specs.Render.{render}
-use Rattle.writer.specs.Written.{Written, Short}
+use Rattle.formula.specs.Views.{reading}
 use Rattle.normal.proofs.Crowds.{crowded}
 use Rattle.rendering.proofs.Facts.{stored_coded, set_within, set_few}
 use Rattle.normal.proofs.normalized.Goals as goal
@@ -29,19 +26,18 @@ write-requires c =
     let is = c.in_ok-number.ensures.cases.1 in
     record {
       held = is.held;
-      bound = subst (AllByRecursion (AllByRecursion (λ (k : ℕ). k < 2 * length (bindings_of f.prefix)))) (sym is.means) (set_within format);
-      few = subst (λ (s : List (List ℕ)). length s ≤ 2048) (sym is.means) (set_few format);
+      bound = rw is.means (set_within format);
+      few = rw is.means (set_few format);
     }
 
 pub returns-in_err-len : goal.returns-in_err-len
 returns-in_err-len c =
     let f = c.in_ok-formula.formula in
     let p = err_from_is_err_and c.from_residual-in_err-len.result c.from_residual-in_err-len.ensures.1 in
-    let needed = c.in_err-len.field-0.0.needed in
     rw (p.1, p.2) (
       reading f,
       (c.in_ok-formula.ensures.accepted (reading f)).0 refl,
-      subst (λ (s : List (List ℕ)). Short (render f.variables (bindings_of f.prefix) s) c.args.buffer.now c.write.new.buffer needed) c.in_ok-number.ensures.cases.1.means c.in_err-len.ensures,
+      rw (← c.in_ok-number.ensures.cases.1.means) c.in_err-len.ensures,
     )
 
 pub returns : goal.returns
@@ -49,5 +45,5 @@ returns c =
     let f = c.in_ok-formula.formula in (
       reading f,
       (c.in_ok-formula.ensures.accepted (reading f)).0 refl,
-      subst (λ (s : List (List ℕ)). Written (render f.variables (bindings_of f.prefix) s) c.args.buffer.now c.write.new.buffer c.in_ok-len.len) c.in_ok-number.ensures.cases.1.means c.in_ok-len.ensures,
+      rw (← c.in_ok-number.ensures.cases.1.means) c.in_ok-len.ensures,
     )
