@@ -20,8 +20,8 @@ pub fn store_clauses(table: &mut Table, clauses: &ClauseList) -> Result<u16, Ful
     ensures { MakesAll table.old (forming [] (clauses_of clauses.now)) (formed [] (clauses_of clauses.now)) table.new result }
 {
     let mut set = 0;
-    for place in 0..clauses.len() {
-        let clause = single(table, clauses.clause(place))?;
+    for codes in clauses.iter() {
+        let clause = single(table, codes)?;
         set = union(table, clause, set)?;
     }
     Ok(set)
