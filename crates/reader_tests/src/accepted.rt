@@ -1,5 +1,5 @@
 // Texts of the format, each with its whole formula.
-use crate::outcomes::{Accepted, expect_all_accepted};
+use crate::outcomes::{Accepted, expect_all_accepted, expect_formula};
 use qbf::Quantifier::{Existential, Universal};
 use std::test::Fail;
 
@@ -178,6 +178,21 @@ const ROWS: [Accepted; 21] = [
         clauses: &[&[], &[3, 0]],
     },
 ];
+
+// Prefixes are compared by their variables and quantifiers, in order.
+#[test]
+fn prefixes(rt: HostRuntime) -> Result<(), Fail> {
+    let one = expect_formula(b"p cnf 3 0\na 1 2 0\n")?.prefix;
+    // on two lines, with another V
+    assert!(rt; one == expect_formula(b"p cnf 2 0\na 1 0\na 2 0\n")?.prefix);
+    // in another order
+    assert!(rt; one != expect_formula(b"p cnf 3 0\na 2 1 0\n")?.prefix);
+    // with another quantifier
+    assert!(rt; one != expect_formula(b"p cnf 3 0\na 1 0\ne 2 0\n")?.prefix);
+    // with one variable more
+    assert!(rt; one != expect_formula(b"p cnf 3 0\na 1 2 3 0\n")?.prefix);
+    Ok(())
+}
 
 #[test]
 fn formulas(rt: HostRuntime) -> Result<(), Fail> {

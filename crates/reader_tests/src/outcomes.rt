@@ -20,10 +20,8 @@ pub(crate) struct Accepted {
 
 // The number of the rule by which a text is refused, and the offset that is told.
 fn refusal(text: &[u8]) -> Option<(u8, usize)> {
-    match reader::read(text) {
-        Ok(_) => None,
-        Err(fault) => Some((fault.rule.number(), fault.at)),
-    }
+    let fault = reader::read(text).err()?;
+    Some((fault.rule.number(), fault.at))
 }
 
 // The text is refused by the rule of this number, at this offset.
@@ -33,14 +31,7 @@ pub(crate) fn expect_refused(rt: &impl Abort, text: &[u8], number: u8, at: usize
 
 // The formula of a text that is to be accepted.
 pub(crate) fn expect_formula(text: &[u8]) -> Result<Formula, Fail> {
-    match reader::read(text) {
-        Ok(formula) => Ok(formula),
-        Err(fault) => {
-            let number = fault.rule.number();
-            let at = fault.at;
-            Err(Fail::new(format_args!("refused {number} at {at}")))
-        }
-    }
+    reader::read(text).map_err(|fault| Fail::new(format_args!("{fault}")))
 }
 
 pub(crate) fn expect_all_refused(rt: &impl Abort, rows: &[Refused]) {
@@ -82,9 +73,8 @@ fn expect_prefix(rt: &impl Abort, text: &str, prefix: &Prefix, expected: &[(Quan
 
 fn expect_clauses(rt: &impl Abort, text: &str, clauses: &ClauseList, expected: &[&[u16]]) {
     assert_eq!(rt; clauses.len(), expected.len(), "{text:?}");
-    for (place, codes) in expected.iter().enumerate() {
-        assert!(rt; place < clauses.len(), "{text:?}");
-        assert_eq!(rt; clauses.clause(place), *codes, "{text:?}");
+    for (stored, codes) in clauses.iter().zip(expected) {
+        assert_eq!(rt; stored, *codes, "{text:?}");
     }
 }
 

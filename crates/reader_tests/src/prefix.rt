@@ -1,6 +1,7 @@
 // Refused in a prefix line or behind one. The problem line has 10 bytes, so that the first prefix line begins at 10
 // and its first variable at 12.
 use crate::outcomes::{Refused, expect_all_refused};
+use std::test::Fail;
 
 const ROWS: [Refused; 36] = [
     // the text ends behind the quantifier
@@ -84,6 +85,17 @@ const GREATEST: [Refused; 2] = [
     // V is in range, and bound twice
     Refused("p cnf 256 0\na 256 256 0\n", 4, 18),
 ];
+
+// A refusal is shown with the rule's number and the offset.
+#[test]
+fn shown(rt: HostRuntime) -> Result<(), Fail> {
+    let Err(fault) = reader::read(b"p cnf 3 0\ne 1 1 0\n") else {
+        return Err(Fail::new(format_args!("not refused")));
+    };
+    let text = format!(in rt.alloc(); "{fault}")?;
+    assert_eq!(rt; text.as_str(), "refused 4 at 14");
+    Ok(())
+}
 
 #[test]
 fn prefix_lines(rt: HostRuntime) {
