@@ -5,6 +5,7 @@
 
 mod fault;
 
+ghost use Rattle.std.specs.Prelude.{ℕ, ◌≤◌, ◌≢◌, length};
 ghost use Rattle.normal.specs.Normal.{Normal};
 
 pub use fault::Unwritten;
@@ -13,9 +14,11 @@ use reader::read;
 use table::Table;
 use writer::write;
 
-// Writes the formula of the text to the front of the buffer, and tells how many bytes it has.
+// Writes the formula of the text to the front of the buffer, and tells how many bytes it has. What is written is no longer than
+// what was read, so that a buffer as long as a text may be is never too short.
 pub fn normalized(text: &[u8], buffer: &mut [u8]) -> Result<usize, Unwritten>
-    ensures { Normal text.now buffer.old buffer.new result }
+    ensures normal { Normal text.now buffer.old buffer.new result }
+    ensures enough { 60000 ≤ length buffer.old → (n : ℕ) → result ≢ Err (Unwritten.TooShort n) }
 {
     let formula = read(text)?;
     let mut table = Table::new();

@@ -4,8 +4,8 @@
 #[cfg(test)]
 mod tests {
     use normal::{Unwritten, normalized};
+    use std::fmt::InlineText;
     use std::process::Abort;
-    use std::test::Fail;
 
     // A text, and the buffer of 40 dots after it was written there with this length.
     #[derive(Clone, Copy)]
@@ -41,55 +41,43 @@ mod tests {
         },
     ];
 
-    fn expect_written(rt: &impl Abort, row: &Row) -> Result<(), Fail> {
+    fn expect_written(rt: &impl Abort, row: &Row) {
         let text = row.text;
         let mut buffer = [b'.'; 40];
-        match normalized(text.as_bytes(), &mut buffer) {
-            Ok(len) => {
-                assert_eq!(rt; len, row.len, "{text:?}");
-                assert_eq!(rt; &buffer[..], row.buffer.as_bytes(), "{text:?}");
-                Ok(())
-            }
-            Err(_) => Err(Fail::new(format_args!("{text:?} is not written"))),
-        }
+        let written = normalized(text.as_bytes(), &mut buffer);
+        assert_eq!(rt; written, Ok(row.len), "{text:?}");
+        assert_eq!(rt; &buffer[..], row.buffer.as_bytes(), "{text:?}");
     }
 
     #[test]
-    fn texts_are_written(rt: HostRuntime) -> Result<(), Fail> {
+    fn texts_are_written(rt: HostRuntime) {
         for row in &ROWS {
-            expect_written(&rt, row)?;
+            expect_written(&rt, row);
         }
-        Ok(())
     }
 
     // The text of 37 bytes does not fit into 36, which stay as they are.
     #[test]
-    fn short_buffer_is_refused(rt: HostRuntime) -> Result<(), Fail> {
+    fn short_buffer_is_refused(rt: HostRuntime) {
         let mut buffer = [b'.'; 36];
-        match normalized(b"p cnf 3 2\ne 3 0\na 1 2 0\n3 -1 0\n3 2 0\n", &mut buffer) {
-            Err(Unwritten::TooShort(needed)) => {
-                assert_eq!(rt; needed, 37);
-                assert_eq!(rt;
-                    &buffer[..],
-                    b"....................................".as_slice()
-                );
-                Ok(())
-            }
-            _ => Err(Fail::new("the buffer is not too short")),
-        }
+        let written = normalized(b"p cnf 3 2\ne 3 0\na 1 2 0\n3 -1 0\n3 2 0\n", &mut buffer);
+        assert_eq!(rt; written, Err(Unwritten::TooShort(37)));
+        assert_eq!(rt;
+            &buffer[..],
+            b"....................................".as_slice()
+        );
     }
 
-    // The variable 2 is not bound: the reader's refusal, and the buffer as it was.
+    // The variable 2 is not bound: the reader's refusal, as it is told, and the buffer as it was.
     #[test]
-    fn unread_text_is_refused(rt: HostRuntime) -> Result<(), Fail> {
+    fn unread_text_is_refused(rt: HostRuntime) {
         let mut buffer = [b'.'; 4];
         match normalized(b"p cnf 2 1\ne 1 0\n2 0\n", &mut buffer) {
-            Err(Unwritten::Unread(fault)) => {
-                assert_eq!(rt; (fault.rule.number(), fault.at), (5, 16));
+            Ok(_) => panic!(rt; "the text is read"),
+            Err(unwritten) => {
+                assert_eq!(rt; InlineText::<16>::of(unwritten).as_str(), "refused 5 at 16");
                 assert_eq!(rt; &buffer[..], b"....".as_slice());
-                Ok(())
             }
-            _ => Err(Fail::new("the text is read")),
         }
     }
 }

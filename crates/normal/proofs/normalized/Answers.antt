@@ -1,6 +1,7 @@
-use Rattle.std.proofs.Common.{refl}
+use Rattle.std.proofs.Common.{length, refl}
 use Rattle.std.proofs.lemmas.Result.{err_from_is_err_and}
 use Rattle.formula.specs.Views.{reading}
+use Rattle.normal.proofs.Lengths.{never_short}
 use Rattle.normal.proofs.Crowds.{crowded}
 use Rattle.rendering.proofs.Facts.{stored_coded, set_within, set_few}
 use Rattle.normal.proofs.normalized.Goals as goal
@@ -8,8 +9,8 @@ use Rattle.normal.proofs.normalized.Goals as goal
 pub store_clauses-requires : goal.store_clauses-requires
 store_clauses-requires c = stored_coded c.in_ok-formula.formula ((c.in_ok-formula.ensures.accepted (reading c.in_ok-formula.formula)).0 refl)
 
-pub returns-in_err-number : goal.returns-in_err-number
-returns-in_err-number c =
+pub returns-in_err-number-clause-normal : goal.returns-in_err-number-clause-normal
+returns-in_err-number-clause-normal c =
     let f = c.in_ok-formula.formula in
     let p = err_from_is_err_and c.from_residual-in_err-number.result c.from_residual-in_err-number.ensures.1 in
     rw (p.1, p.2) (
@@ -30,8 +31,8 @@ write-requires c =
       few = rw is.means (set_few format);
     }
 
-pub returns-in_err-len : goal.returns-in_err-len
-returns-in_err-len c =
+pub returns-in_err-len-clause-normal : goal.returns-in_err-len-clause-normal
+returns-in_err-len-clause-normal c =
     let f = c.in_ok-formula.formula in
     let p = err_from_is_err_and c.from_residual-in_err-len.result c.from_residual-in_err-len.ensures.1 in
     rw (p.1, p.2) (
@@ -40,10 +41,15 @@ returns-in_err-len c =
       rw (← c.in_ok-number.ensures.cases.1.means) c.in_err-len.ensures,
     )
 
-pub returns : goal.returns
-returns c =
+pub returns-clause-normal : goal.returns-clause-normal
+returns-clause-normal c =
     let f = c.in_ok-formula.formula in (
       reading f,
       (c.in_ok-formula.ensures.accepted (reading f)).0 refl,
       rw (← c.in_ok-number.ensures.cases.1.means) c.in_ok-len.ensures,
     )
+
+pub returns-in_err-len-clause-enough : goal.returns-in_err-len-clause-enough
+returns-in_err-len-clause-enough c enough n e =
+    let f = c.in_ok-formula.formula in
+    never_short (reading f) ((c.in_ok-formula.ensures.accepted (reading f)).0 refl) (length c.args.buffer.now) (rw (← c.in_ok-number.ensures.cases.1.means) c.in_err-len.ensures.too_short) enough
