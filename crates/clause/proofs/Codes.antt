@@ -6,7 +6,8 @@ use Rattle.std.proofs.lemmas.Bool.{both_ways, cases_lt}
 use Rattle.qbf.specs.Lists.{In, Distinct, mem}
 use Rattle.clause.specs.declared.Clause.{Clause}
 use Rattle.clause.specs.Codes.{codes_of}
-use Rattle.clause.proofs.Members.{in_mem, mem_not_in, all_from_in, apart_from_in, distinct_length}
+use Rattle.qbf.proofs.Lists.{in_mem, mem_not_in, all_from_in, apart_from_in}
+use Rattle.clause.proofs.Members.{distinct_length}
 use Rattle.clause.proofs.Sets.{once_distinct}
 
 -- a code of the clause is marked, and codes from 512 on are not

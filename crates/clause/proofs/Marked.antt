@@ -5,7 +5,7 @@ use Rattle.std.proofs.lemmas.List.{get_or-set_same, get_or-set_other, get_or-rep
 use Rattle.std.proofs.lemmas.Bool.{cases_eq, cases_lt}
 use Rattle.std.proofs.lemmas.Bool.Decides.{same_from_decides, Decides-like}
 use Rattle.qbf.specs.Lists.{In, mem}
-use Rattle.clause.proofs.Members.{in_mem, mem_decides, in_left, in_right, in_cases}
+use Rattle.qbf.proofs.Lists.{in_mem, mem_decides, in_left, in_right, in_cases}
 
 -- exactly the codes of the list are marked
 abbrev pub Marked : List Bool → List ℕ → Type 0

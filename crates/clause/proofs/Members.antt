@@ -1,61 +1,9 @@
--- Membership, removal and distinctness in lists of codes.
-use Rattle.std.proofs.Common.{◌≡◌, ℕ, zero, suc, ◌<◌, ◌≤◌, true, false, eqb, ◌⊎◌, List, [], ◌∷◌, ◌++◌, length, Decides, sym, refl, ap, ◌∙◌, subst, inl, inr, ⊎_elim, arith}
+-- Removal and distinctness in lists of codes.
+use Rattle.std.proofs.Common.{◌≡◌, ℕ, zero, suc, ◌<◌, ◌≤◌, eqb, List, [], ◌∷◌, ◌++◌, length, sym, refl, ap, ◌∙◌, subst, inl, inr, ⊎_elim, arith}
 use Rattle.std.specs.List.{AllByRecursion}
-use Rattle.std.proofs.lemmas.Bool.{both_ways, cases_eq, cases_Bool, cond-true, cond-false, cond_both, eq-eqb, eqb-true, eqb-false, or_left, or_right, or_cases}
-use Rattle.qbf.specs.Lists.{In, Distinct, mem, without}
-
--- mem decides In
-
-pub in_mem : (k : ℕ) (cs : List ℕ) → In k cs → mem k cs ≡ true
-in_mem k [] i = elim i [ ]
-in_mem k (c ∷ cs) (inl e) = or_left (eqb k c) _ (eq-eqb k c e)
-in_mem k (c ∷ cs) (inr i) = or_right (eqb k c) _ (in_mem k cs i)
-
-pub mem_in : (k : ℕ) (cs : List ℕ) → mem k cs ≡ true → In k cs
-mem_in k [] e = absurd (both_ways false refl e)
-mem_in k (c ∷ cs) e = ⊎_elim (λ h. inl (eqb-true k c h)) (λ h. inr (mem_in k cs h)) (or_cases (eqb k c) (mem k cs) e)
-
-pub mem_decides : (k : ℕ) (cs : List ℕ) → Decides (mem k cs) (In k cs)
-mem_decides k cs = (mem_in k cs, in_mem k cs)
-
-pub mem_not_in : (k : ℕ) (cs : List ℕ) → mem k cs ≡ false → In k cs → ⊥
-mem_not_in k cs e i = both_ways (mem k cs) e (in_mem k cs i)
-
-pub cases_in : (k : ℕ) (cs : List ℕ) → In k cs ⊎ (In k cs → ⊥)
-cases_in k cs = ⊎_elim (λ e. inl (mem_in k cs e)) (λ e. inr (mem_not_in k cs e)) (cases_Bool (mem k cs))
-
--- what stands in two lists put together
-
-pub in_left : (k : ℕ) (xs ys : List ℕ) → In k xs → In k (xs ++ ys)
-in_left k [] ys i = elim i [ ]
-in_left k (x ∷ xs) ys (inl e) = inl e
-in_left k (x ∷ xs) ys (inr i) = inr (in_left k xs ys i)
-
-pub in_right : (k : ℕ) (xs ys : List ℕ) → In k ys → In k (xs ++ ys)
-in_right k [] ys i = i
-in_right k (x ∷ xs) ys i = inr (in_right k xs ys i)
-
-pub in_cases : (k : ℕ) (xs ys : List ℕ) → In k (xs ++ ys) → In k xs ⊎ In k ys
-in_cases k [] ys i = inr i
-in_cases k (x ∷ xs) ys (inl e) = inl (inl e)
-in_cases k (x ∷ xs) ys (inr i) = ⊎_elim (λ h. inl (inr h)) (λ h. inr h) (in_cases k xs ys i)
-
--- what holds of each element
-
-pub all_in : (P : ℕ → Type 0) (cs : List ℕ) (k : ℕ) → AllByRecursion P cs → In k cs → P k
-all_in P [] k a i = elim i [ ]
-all_in P (c ∷ cs) k a (inl e) = subst P (sym e) a.0
-all_in P (c ∷ cs) k a (inr i) = all_in P cs k a.1 i
-
-pub all_from_in : (P : ℕ → Type 0) (cs : List ℕ) → ((k : ℕ) → In k cs → P k) → AllByRecursion P cs
-all_from_in P [] h = tt
-all_from_in P (c ∷ cs) h = (h c (inl refl), all_from_in P cs (λ k i. h k (inr i)))
-
-pub apart_in : (x : ℕ) (cs : List ℕ) → AllByRecursion (λ y. x ≡ y → ⊥) cs → In x cs → ⊥
-apart_in x cs a i = all_in (λ y. x ≡ y → ⊥) cs x a i refl
-
-pub apart_from_in : (x : ℕ) (cs : List ℕ) → (In x cs → ⊥) → AllByRecursion (λ y. x ≡ y → ⊥) cs
-apart_from_in x cs n = all_from_in (λ y. x ≡ y → ⊥) cs (λ k i e. n (subst (λ (q : ℕ). In q cs) (sym e) i))
+use Rattle.std.proofs.lemmas.Bool.{cases_eq, cond-true, cond-false, cond_both, eqb-true, eqb-false}
+use Rattle.qbf.specs.Lists.{In, Distinct, without}
+use Rattle.qbf.proofs.Lists.{all_in, apart_in, apart_from_in}
 
 -- taking a code out
 

@@ -4,7 +4,7 @@ use Rattle.std.proofs.lemmas.Bool.{cond-true, cond-false}
 use Rattle.qbf.specs.Literals.{complement}
 use Rattle.qbf.specs.Lists.{mem}
 use Rattle.clause.specs.Once.{once, both_signs}
-use Rattle.clause.proofs.Members.{mem_in, mem_not_in}
+use Rattle.qbf.proofs.Lists.{mem_in, mem_not_in}
 use Rattle.clause.proofs.Sets.{mem_once, once_new, once_old, both_signs_more}
 
 once_more : (xs : List ℕ) (x : ℕ) → cond (mem x (once xs)) (once xs) (once xs ++ x ∷ []) ≡ once (xs ++ x ∷ [])

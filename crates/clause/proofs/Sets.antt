@@ -6,7 +6,8 @@ use Rattle.std.proofs.lemmas.Bool.Decides.{same_from_decides, Decides-like, Deci
 use Rattle.qbf.specs.Literals.{complement}
 use Rattle.qbf.specs.Lists.{In, Distinct, mem, without}
 use Rattle.clause.specs.Once.{once, both_signs, within, same_set, OnceStands}
-use Rattle.clause.proofs.Members.{in_mem, mem_in, mem_decides, cases_in, in_left, in_right, in_cases, apart_from_in, without_out, without_in, all_without, without_distinct, without_apart, without_append, length_without, length_inside}
+use Rattle.qbf.proofs.Lists.{in_mem, mem_in, mem_decides, cases_in, in_left, in_right, in_cases, apart_from_in}
+use Rattle.clause.proofs.Members.{without_out, without_in, all_without, without_distinct, without_apart, without_append, length_without, length_inside}
 
 -- each literal once
 

@@ -4,6 +4,7 @@ use Rattle.std.proofs.ByRecursion.{All-push}
 use Rattle.std.proofs.lemmas.Bool.{both_ways, false≢true, cond-true, cond-false, or_cases, or_parts}
 use Rattle.std.specs.List.{AllByRecursion}
 use Rattle.qbf.specs.Lists.{In}
+use Rattle.qbf.proofs.Lists.{in_left, in_right}
 use Rattle.clause.specs.Once.{once, both_signs, same_set}
 use Rattle.clause.proofs.Sets.{once_out, signs, same_itself, same_turned}
 use Rattle.grammar.specs.Stored.{repeated, store, store_all}
@@ -76,19 +77,10 @@ sound (c ∷ cs) stored h = sound cs (store stored c) (on (step stored c))
 abbrev Kept : List ℕ → List (List ℕ) → Type 0
 Kept c stored = (d : List ℕ) × In d stored × (same_set (once c) d ≡ true)
 
-in_front : (d : List ℕ) (xs ys : List (List ℕ)) → In d xs → In d (xs ++ ys)
-in_front d [] ys i = elim i [ ]
-in_front d (x ∷ xs) ys (inl e) = inl e
-in_front d (x ∷ xs) ys (inr i) = inr (in_front d xs ys i)
-
-in_end : (d : List ℕ) (xs : List (List ℕ)) → In d (xs ++ d ∷ [])
-in_end d [] = inl refl
-in_end d (x ∷ xs) = inr (in_end d xs)
-
 kept_on : (c : List ℕ) (cs stored : List (List ℕ)) → Kept c stored → Kept c (store_all stored cs)
 kept_on c cs stored k =
     let r = extends cs stored in
-    (k.0, subst (In k.0) (sym r.is) (in_front k.0 stored r.added k.1), k.2)
+    (k.0, subst (In k.0) (sym r.is) (in_left k.0 stored r.added k.1), k.2)
 
 repeated_kept : (c : List ℕ) (stored : List (List ℕ)) → repeated (once c) stored ≡ true → Kept c stored
 repeated_kept c [] e = absurd (false≢true e)
@@ -102,7 +94,7 @@ complete (d ∷ cs) stored c (inl e) b = kept_on c cs (store stored d) (subst (�
     on : Step stored c → Kept c (store stored c)
     on (left_out s (inl both)) = absurd (both_ways (both_signs c) b both)
     on (left_out s (inr again)) = subst (Kept c) (sym s) (repeated_kept c stored again)
-    on (stored_now s one n) = subst (Kept c) (sym s) (once c, in_end (once c) stored, same_itself (once c))
+    on (stored_now s one n) = subst (Kept c) (sym s) (once c, in_right (once c) stored (once c ∷ []) (inl refl), same_itself (once c))
 complete (d ∷ cs) stored c (inr i) b = complete cs (store stored d) c i b
 
 pub stored_stands_lem : StoredStands

@@ -1,6 +1,6 @@
 use Rattle.std.proofs.Common.{ℕ, List, [], ◌∷◌, ◌++◌, sym, ap, ◌∙◌, arith}
 use Rattle.clause.specs.Codes.{codes_of}
-use Rattle.clause.proofs.Members.{mem_not_in}
+use Rattle.qbf.proofs.Lists.{mem_not_in}
 use Rattle.clause.proofs.Sets.{once_new}
 use Rattle.clause.proofs.Codes.{room_for}
 use Rattle.clause.proofs.Marked.{marked_new}
