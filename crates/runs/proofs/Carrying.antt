@@ -6,7 +6,7 @@ use Rattle.qbf.specs.Memo.{Pairs}
 use Rattle.formula.specs.declared.prefix.Binding.{Binding}
 use Rattle.writer.specs.Written.{Written}
 use Rattle.script.specs.declared.calls.Call.TheVariants.{Load, Decide, Write, Forget}
-use Rattle.script.specs.declared.calls.Space.{Space}
+use Rattle.script.specs.declared.space.Space.{Space}
 use Rattle.script.specs.Spelling.{space_bytes}
 use Rattle.ledger.specs.Answers.{WriteAnswer, written, nothing_to_write, too_short}
 use Rattle.ledger.specs.Ledger.{load, decide, write, forget, LoadedFormula}

@@ -1,16 +1,10 @@
 -- The line that tells an answer.
 use Rattle.std.specs.Prelude.{ℕ, Bool, cond, List, ◌++◌, Ok, Err, codes, decimal, Result}
-use Rattle.std.specs.Option.{unwrap_or}
-use Rattle.ledger.specs.Answers.{Told}
 use Rattle.session.specs.declared.answer.Loaded.{Loaded}
 use Rattle.session.specs.declared.fault.Fault.{Fault}
-use Rattle.session.specs.Told.{fault_told}
+use Rattle.session.specs.Told.{fault_told, refused_line}
 use Rattle.runs.specs.declared.answer.Answer.{Answer}
 use Rattle.runs.specs.declared.answer.Answer.TheVariants.{Loading, Decision, Writing, Forgotten}
-
--- `refused N at P`, with 0 where the refusal carries no value
-abbrev pub refused_line : Told → List ℕ
-refused_line t = codes "refused " ++ decimal t.number ++ codes " at " ++ decimal (unwrap_or t.value 0)
 
 -- `loaded V C`
 abbrev pub load_line : Result Loaded Fault → List ℕ

@@ -3,7 +3,7 @@ use Rattle.std.specs.Prelude.{ℕ, List, [], ◌∷◌, ◌++◌}
 use Rattle.std.specs.Borrow.{Bor}
 use Rattle.script.specs.declared.calls.Call.{Call}
 use Rattle.script.specs.declared.calls.Call.TheVariants.{Load, Decide, Write, Forget}
-use Rattle.script.specs.declared.calls.Space.{Space}
+use Rattle.script.specs.declared.space.Space.{Space}
 use Rattle.script.specs.Spelling.{space_bytes}
 use Rattle.ledger.specs.Answers.{LoadAnswer, DecideAnswer, WriteAnswer}
 use Rattle.ledger.specs.Ledger.{Dealing, load, decide, write, forget}
