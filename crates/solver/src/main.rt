@@ -2,15 +2,11 @@
 // and the splits, `c splits N`; or only `c refused N at P` for a refusal.
 #![tactic(auto)]
 
-use input::fill;
+use input::read_text;
 use std::io;
 use zulfringa::report_on;
 
-// One byte more than a text may have, so that a longer text is seen to be too long.
-const MOST: usize = 60001;
-
 fn main(rt: HostRuntime) -> io::Result<()> {
-    let mut buffer = [0u8; MOST];
-    let len = fill(&rt, &mut buffer)?;
-    println!(rt; "{}", report_on(&buffer[0..len]))
+    let text = read_text(rt.alloc(), rt.stdin())?;
+    println!(rt; "{}", report_on(text.as_slice()))
 }
