@@ -1,7 +1,8 @@
 -- Sets by their sides at a code.
-use Rattle.std.proofs.Common.{◌≡◌, ℕ, ◌<◌, ◌≤◌, List, [], ◌∷◌, sym, ap, ◌∙◌, subst, arith}
+use Rattle.std.proofs.Common.{◌≡◌, ℕ, ◌<◌, ◌≤◌, min, inl, inr, List, [], ◌∷◌, sym, ap, ◌∙◌, subst, arith}
 use Rattle.std.specs.List.{AllByRecursion}
 use Rattle.std.proofs.ByRecursion.{All-weaker}
+use Rattle.std.proofs.lemmas.Bool.{cases_lt}
 use Rattle.qbf.specs.Clauses.{union}
 use Rattle.sets.specs.Sides.{Over, joined}
 use Rattle.sets.proofs.Joined.{over_joined, union_joined, over_union}
@@ -9,7 +10,7 @@ use Rattle.table.specs.declared.node.Node.{Node}
 use Rattle.table.specs.declared.table.Table.{Table}
 use Rattle.table.specs.Tables.{Number, clauses, Adds, Opens}
 use Rattle.table.proofs.Tables.{ends_stand, small_over, has_clause}
-use Rattle.diagram.specs.Cofactors.{From, Leads, Sided}
+use Rattle.diagram.specs.Cofactors.{From, Leads, Lowest, Sided}
 use Rattle.diagram.proofs.Steps.{Set, Split}
 
 pub opened_leads : (t : Table) (n : ℕ) (x : Node) → Number t n → Opens t n x → Leads x.code (clauses t n)
@@ -30,6 +31,18 @@ opened_from t n k x o l = subst (From k) (sym o.means) (from_joined k x.code (cl
 
 pub small_from : (t : Table) (n k : ℕ) → n < 2 → From k (clauses t n)
 small_from t n k two = from_over k k (clauses t n) (omega arith) (small_over t n k two)
+
+-- the lower of the codes of two sets' nodes
+pub lowest_both : (t : Table) (a b : ℕ) (x y : Node) → Number t a → Number t b → Opens t a x → Opens t b y → Lowest t a b (min x.code y.code)
+lowest_both t a b x y h i o p = record {
+  a_from = opened_from t a _ x o (omega arith);
+  b_from = opened_from t b _ y p (omega arith);
+  met = elim (cases_lt y.code x.code) [
+    | inl l ↦ (let e : y.code ≡ min x.code y.code = omega arith in inr (subst (λ k. Leads k (clauses t b)) e (opened_leads t b y i p)))
+    | inr g ↦ (let e : x.code ≡ min x.code y.code = omega arith in inl (subst (λ k. Leads k (clauses t a)) e (opened_leads t a x h o)))
+  ];
+  coded = omega (arith, o.coded);
+}
 
 pub sided_here : (t : Table) (n k : ℕ) (x : Node) → Opens t n x → x.code ≡ k → Sided t n k x.with x.without
 sided_here t n k x o e = record {

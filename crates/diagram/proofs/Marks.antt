@@ -1,36 +1,32 @@
 -- The marks of a list of codes.
-use Rattle.std.proofs.Common.{◌≡◌, ℕ, ◌+◌, ◌<◌, ◌≤◌, Bool, true, false, ◌||◌, eqb, List, [], ◌∷◌, ◌++◌, length, get_or, take, set, replicate, sym, refl, ap, ◌∙◌, subst, inl, inr, arith}
+use Rattle.std.proofs.Common.{◌≡◌, ℕ, ◌+◌, ◌<◌, ◌≤◌, Bool, true, false, ◌||◌, eqb, List, [], ◌∷◌, ◌++◌, length, get_or, take, set, replicate, sym, ap, ◌∙◌, subst, inl, inr, arith}
 use Rattle.std.specs.List.{AllByRecursion}
 use Rattle.std.proofs.ByRecursion.{All-push, All-weaker}
 use Rattle.std.proofs.lemmas.Bool.Decides.{nat_tests}
 use Rattle.std.proofs.lemmas.Bool.{cases_eq}
-use Rattle.std.proofs.lemmas.List.{length-set, get_or-set_same, get_or-set_other, get_or-replicate, take_more}
+use Rattle.std.proofs.lemmas.List.{get_or-set_same, get_or-set_other, get_or-replicate, take_more}
 use Rattle.qbf.specs.Lists.{mem}
 
 -- of the 512 codes, those of the list are marked
-pub record Marked (at : List Bool) (codes : List ℕ) : Type 0 where
-  pub long : length at ≡ 512
-  pub each : (k : ℕ) → k < 512 → get_or at k false ≡ mem k codes
+abbrev pub Marked : List Bool → List ℕ → Type 0
+Marked at codes = (k : ℕ) → k < 512 → get_or at k false ≡ mem k codes
 
 mem_push : (k x : ℕ) (xs : List ℕ) → mem k (xs ++ (x ∷ [])) ≡ (mem k xs || eqb k x)
 mem_push k x [] = grind (arith, nat_tests)
 mem_push k x (y ∷ xs) = let ih = mem_push k x xs in grind (arith, nat_tests)
 
 pub marked_none : Marked (replicate 512 false) []
-marked_none = record { long = refl; each = λ k h. get_or-replicate 512 k false false h }
+marked_none k h = get_or-replicate 512 k false false h
 
-pub marked_more : (at : List Bool) (codes : List ℕ) (i : ℕ) → i < length codes → get_or codes i 0 < 512 → Marked at (take i codes) → Marked (set at (get_or codes i 0) true) (take (i + 1) codes)
-marked_more at codes i h low m = record { long = length-set at (get_or codes i 0) true ∙ m.long; each = each }
-  where
-    each : (k : ℕ) → k < 512 → get_or (set at (get_or codes i 0) true) k false ≡ mem k (take (i + 1) codes)
-    each k l =
-        let e : mem k (take (i + 1) codes) ≡ (mem k (take i codes) || eqb k (get_or codes i 0)) = ap (mem k) (take_more codes i 0 h) ∙ mem_push k (get_or codes i 0) (take i codes) in
-        let old = m.each k l in
-        let long = m.long in
-        elim (cases_eq k (get_or codes i 0)) [
-          | inl s ↦ (let f : get_or (set at (get_or codes i 0) true) k false ≡ true = ap (λ j. get_or (set at (get_or codes i 0) true) j false) s ∙ get_or-set_same at (get_or codes i 0) true false (omega arith) in grind (arith, nat_tests))
-          | inr n ↦ (let f : get_or (set at (get_or codes i 0) true) k false ≡ get_or at k false = get_or-set_other at (get_or codes i 0) k true false n in grind (arith, nat_tests))
-        ]
+pub marked_more : (at : List Bool) (codes : List ℕ) (i : ℕ) → length at ≡ 512 → i < length codes → get_or codes i 0 < 512 → Marked at (take i codes) → Marked (set at (get_or codes i 0) true) (take (i + 1) codes)
+marked_more at codes i long h low m k l =
+    let x : ℕ = get_or codes i 0 in
+    let e : mem k (take (i + 1) codes) ≡ (mem k (take i codes) || eqb k x) = ap (mem k) (take_more codes i 0 h) ∙ mem_push k x (take i codes) in
+    let old = m k l in
+    elim (cases_eq k x) [
+      | inl s ↦ (let f : get_or (set at x true) k false ≡ true = ap (λ j. get_or (set at x true) j false) s ∙ get_or-set_same at x true false (omega arith) in grind (arith, nat_tests))
+      | inr n ↦ (let f : get_or (set at x true) k false ≡ get_or at k false = get_or-set_other at x k true false n in grind (arith, nat_tests))
+    ]
 
 -- the codes lie from `low` on, below `end`, which is a code or the first number that is none
 pub record Spanned (low end : ℕ) (codes : List ℕ) : Type 0 where

@@ -1,14 +1,14 @@
 -- The part of a set by its sides.
-use Rattle.std.proofs.Common.{◌≡◌, ℕ, ◌<◌, ◌≤◌, List, Ok, sym, ap, ◌∙◌, subst, arith}
+use Rattle.std.proofs.Common.{◌≡◌, ℕ, ◌<◌, List, Ok, refl, sym, ap, ◌∙◌, arith}
 use Rattle.sets.specs.Sides.{Over, joined}
-use Rattle.sets.proofs.Joined.{over_joined, lacking_over, lacking_here, lacking_other, taken_out_over, taken_out_here, taken_out_other, over_lacking, over_taken_out}
+use Rattle.sets.proofs.Joined.{lacking_here, lacking_other, taken_out_here, taken_out_other, over_lacking, over_taken_out}
 use Rattle.table.specs.declared.node.Node.{Node}
 use Rattle.table.specs.declared.table.Table.{Table}
 use Rattle.table.specs.Tables.{Number, clauses, Adds, Makes, Opens}
-use Rattle.table.proofs.Tables.{ends_stand, small_over}
 use Rattle.diagram.specs.declared.literal.Part.{Part}
 use Rattle.diagram.specs.declared.literal.Part.TheVariants.{Lacking, TakenOut}
-use Rattle.diagram.specs.Parts.{part_of, of_others, of_node}
+use Rattle.diagram.specs.Parts.{part_of, side_of}
+use Rattle.diagram.specs.Cofactors.{Sided}
 use Rattle.diagram.proofs.Steps.{Set, Split, there}
 
 over_part : (p : Part) (k l : ℕ) (s : Set) → Over k s → Over k (part_of p l s)
@@ -19,23 +19,18 @@ part_other : (p : Part) (l k : ℕ) (hi lo : Set) → (k ≡ l → ⊥) → part
 part_other Lacking l k hi lo n = lacking_other l k hi lo n
 part_other TakenOut l k hi lo n = taken_out_other l k hi lo n
 
--- a set whose codes are all above the literal
-part_over : (t : Table) (p : Part) (n l k : ℕ) → Number t n → l ≤ k → Over k (clauses t n) → Makes t (part_of p l (clauses t n)) t (Ok (of_others p n))
-part_over t Lacking n l k h le a = there t _ n h (sym (lacking_over l k (clauses t n) le a))
-part_over t TakenOut n l k h le a = there t _ 0 (omega arith) ((ends_stand t).0 ∙ sym (taken_out_over l k (clauses t n) le a))
+part_sides : (p : Part) (l : ℕ) (hi lo : Set) (with without : ℕ) (t : Table) → Over l hi → Over l lo → hi ≡ clauses t with → lo ≡ clauses t without → clauses t (side_of p with without) ≡ part_of p l (joined l hi lo)
+part_sides Lacking l hi lo with without t a b e f = sym f ∙ sym (lacking_here l hi lo b)
+part_sides TakenOut l hi lo with without t a b e f = sym e ∙ sym (taken_out_here l hi lo a b)
 
-pub part_small : (t : Table) (p : Part) (n l : ℕ) → Number t n → n < 2 → Makes t (part_of p l (clauses t n)) t (Ok (of_others p n))
-part_small t p n l h two = part_over t p n l l h (omega arith) (small_over t n l two)
+side_held : (p : Part) (t : Table) (n k hi lo : ℕ) → Number t n → Sided t n k hi lo → Number t (side_of p hi lo)
+side_held Lacking t n k hi lo h s = omega (arith, s.lo_le)
+side_held TakenOut t n k hi lo h s = omega (arith, s.hi_le)
 
-pub part_above : (t : Table) (p : Part) (n l : ℕ) (x : Node) → Number t n → Opens t n x → l < x.code → Makes t (part_of p l (clauses t n)) t (Ok (of_others p n))
-part_above t p n l x h o le = part_over t p n l l h (omega arith) (subst (Over l) (sym o.means) (over_joined l x.code (clauses t x.with) (clauses t x.without) le o.with_over o.without_over))
-
-pub part_here : (t : Table) (p : Part) (n l : ℕ) (x : Node) → Number t n → Opens t n x → x.code ≡ l → Makes t (part_of p l (clauses t n)) t (Ok (of_node p x))
-part_here t p n l x h o e = subst (λ k. Makes t (part_of p k (clauses t n)) t (Ok (of_node p x))) e (here p)
-  where
-    here : (p : Part) → Makes t (part_of p x.code (clauses t n)) t (Ok (of_node p x))
-    here Lacking = there t _ x.without (omega (arith, o.without_less)) (sym (lacking_here x.code (clauses t x.with) (clauses t x.without) o.without_over) ∙ ap (part_of Lacking x.code) (sym o.means))
-    here TakenOut = there t _ x.with (omega (arith, o.with_less)) (sym (taken_out_here x.code (clauses t x.with) (clauses t x.without) o.with_over o.without_over) ∙ ap (part_of TakenOut x.code) (sym o.means))
+-- the part of a set whose codes are the literal or above: a side of it
+pub part_side : (t : Table) (p : Part) (n l hi lo : ℕ) → Number t n → Sided t n l hi lo → Makes t (part_of p l (clauses t n)) t (Ok (side_of p hi lo))
+part_side t p n l hi lo h s =
+    there t _ _ (side_held p t n l hi lo h s) (part_sides p l (clauses t hi) (clauses t lo) hi lo t s.hi_over s.lo_over refl refl ∙ ap (part_of p l) (sym s.means))
 
 pub part_split : (t : Table) (p : Part) (n l : ℕ) (x : Node) → Opens t n x → (x.code ≡ l → ⊥) → Split (part_of p l (clauses t n)) x.code (part_of p l (clauses t x.with)) (part_of p l (clauses t x.without))
 part_split t p n l x o ne = record {

@@ -5,12 +5,13 @@ ghost use Rattle.qbf.specs.Lists.{mem};
 ghost use Rattle.sets.specs.Ordered.{clause_of};
 ghost use Rattle.table.specs.Tables.{Makes};
 
+use arrays::ByCode;
 use table::{Full, Table};
 
 // For each code, whether it is in a clause, and where the clause's codes lie: from `low` on, below `end`.
 #[derive(Clone, Copy)]
 struct Marks {
-    at: [bool; 512],
+    held: ByCode<bool>,
     low: u16,
     end: u16,
 }
@@ -18,23 +19,19 @@ struct Marks {
 // Marks the codes of a clause, literal by literal in the order given.
 fn mark(codes: &[u16]) -> Marks
     requires { AllByRecursion (λ x. x < 512) codes.now }
-    ensures marked { (k : ℕ) → k < 512 → slice_index_or result.at k false ≡ mem k codes.now }
+    ensures marked { (k : ℕ) → k < 512 → slice_index_or result.held.at k false ≡ mem k codes.now }
     ensures within { AllByRecursion (λ x. (result.low ≤ x) × (x < result.end)) codes.now }
     ensures coded { result.end ≤ 512 }
 {
-    let mut at = [false; 512];
-    let mut low = 512;
-    let mut end = 0;
+    let mut held = ByCode::new(false);
+    let mut low: u16 = 512;
+    let mut end: u16 = 0;
     for code in codes {
-        at[*code as usize] = true;
-        if *code < low {
-            low = *code;
-        }
-        if *code >= end {
-            end = *code + 1;
-        }
+        held.set(*code, true);
+        low = low.min(*code);
+        end = end.max(*code + 1);
     }
-    Marks { at, low, end }
+    Marks { held, low, end }
 }
 
 // The set of the one clause with these codes. It is built from the highest code down to the lowest, so that each node made
@@ -46,7 +43,7 @@ pub fn single(table: &mut Table, codes: &[u16]) -> Result<u16, Full>
     let marks = mark(codes);
     let mut clause = 1;
     for code in (marks.low..marks.end).rev() {
-        if marks.at[code as usize] {
+        if marks.held.get(code) {
             clause = table.make(code, clause, 0)?;
         }
     }

@@ -2,11 +2,13 @@
 ghost use Rattle.std.specs.Prelude.{◌≡◌};
 ghost use Rattle.qbf.specs.Clauses.{lacking, taken_out};
 ghost use Rattle.table.specs.Tables.{Number, clauses, Makes};
-ghost use Rattle.diagram.specs.Parts.{part_of, of_others, of_node};
+ghost use Rattle.diagram.specs.Parts.{part_of, side_of};
 
-use table::{Full, Node, Table};
+use crate::sides::{Sides, sides_at};
+use table::{Full, Table};
 
-// Which clauses are made: those that lack a literal, or those that hold it, with it taken out.
+// Which clauses are made: those that lack a literal, or those that hold it, with it taken out. With a closure that picks the
+// side, the contract below would need such a name all the same.
 #[derive(Clone, Copy)]
 enum Part {
     Lacking,
@@ -14,23 +16,13 @@ enum Part {
 }
 
 impl Part {
-    // The part of a set none of whose clauses holds the literal.
-    fn of_others(self, number: u16) -> u16
-        ensures { result ≡ of_others self number }
+    // The part of a set by its sides at the literal.
+    fn of(self, sides: Sides) -> u16
+        ensures { result ≡ side_of self sides.with sides.without }
     {
         match self {
-            Part::Lacking => number,
-            Part::TakenOut => 0,
-        }
-    }
-
-    // The part of a set whose lowest code is the literal.
-    fn of_node(self, node: Node) -> u16
-        ensures { result ≡ of_node self node }
-    {
-        match self {
-            Part::Lacking => node.without,
-            Part::TakenOut => node.with,
+            Part::Lacking => sides.without,
+            Part::TakenOut => sides.with,
         }
     }
 }
@@ -40,19 +32,15 @@ fn make_part(table: &mut Table, part: Part, number: u16, literal: u16) -> Result
     requires { Number table.old number }
     ensures { Makes table.old (part_of part literal (clauses table.old number)) table.new result }
 {
-    if number < 2 {
-        return Ok(part.of_others(number));
+    if number >= 2 {
+        let node = table.node(number);
+        if node.code < literal {
+            let with = make_part(table, part, node.with, literal)?;
+            let without = make_part(table, part, node.without, literal)?;
+            return table.make(node.code, with, without);
+        }
     }
-    let node = table.node(number);
-    if literal < node.code {
-        return Ok(part.of_others(number));
-    }
-    if node.code == literal {
-        return Ok(part.of_node(node));
-    }
-    let with = make_part(table, part, node.with, literal)?;
-    let without = make_part(table, part, node.without, literal)?;
-    table.make(node.code, with, without)
+    Ok(part.of(sides_at(table, number, literal)))
 }
 
 // The clauses of a set that do not hold the literal.

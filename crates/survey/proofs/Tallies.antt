@@ -6,9 +6,10 @@ use Rattle.std.proofs.lemmas.List.{get_or-set_same, get_or-set_other, get_or-rep
 use Rattle.qbf.specs.Lists.{mem}
 use Rattle.qbf.specs.Clauses.{holding}
 use Rattle.sets.proofs.Joined.{length_joined, count_here, count_other, holding_over}
-use Rattle.table.specs.declared.node.Node.{Node}
-use Rattle.table.specs.declared.table.Table.{Table}
-use Rattle.table.specs.Tables.{clauses, Opens}
+use Rattle.table.specs.declared.set.Set.{Set}
+use Rattle.table.specs.declared.set.reading.Branches.{Branches}
+use Rattle.table.specs.Tables.{clauses}
+use Rattle.table.specs.Sets.{clauses_of, Branched}
 use Rattle.table.proofs.Tables.{ends_stand, small_over}
 use Rattle.survey.specs.Surveyed.{Counted, Tallied, Roomy}
 
@@ -19,22 +20,22 @@ kept_few p (c ∷ s) = let ih = kept_few p s in grind (arith, nat_tests)
 few_held : (l : ℕ) (s : List (List ℕ)) → length (holding l s) ≤ length s
 few_held l s = kept_few (mem l) s
 
--- the set n of the table t by its node x; the counts were c0, and c1 after the with-side
-module _ (t : Table) (n : ℕ) (x : Node) (o : Opens t n x) (c0 : List ℕ) (room : Roomy (length (clauses t n)) c0) where
+-- the set s by its branches x; the counts were c0, and c1 after the with-side
+module _ (s : Set) (x : Branches) (o : Branched s x) (c0 : List ℕ) (room : Roomy (length (clauses_of s)) c0) where
   abbrev hi : List (List ℕ)
-  hi = clauses t x.with
+  hi = clauses_of x.with
 
   abbrev lo : List (List ℕ)
-  lo = clauses t x.without
+  lo = clauses_of x.without
 
-  pub total : length (clauses t n) ≡ length hi + length lo
+  pub total : length (clauses_of s) ≡ length hi + length lo
   total = ap length o.means ∙ length_joined x.code hi lo
 
-  held_here : length (holding x.code (clauses t n)) ≡ length hi
-  held_here = ap (λ s. length (holding x.code s)) o.means ∙ count_here x.code hi lo o.without_over
+  held_here : length (holding x.code (clauses_of s)) ≡ length hi
+  held_here = ap (λ r. length (holding x.code r)) o.means ∙ count_here x.code hi lo o.without_over
 
-  held_other : (l : ℕ) → (x.code ≡ l → ⊥) → length (holding l (clauses t n)) ≡ length (holding l hi) + length (holding l lo)
-  held_other l ne = ap (λ s. length (holding l s)) o.means ∙ count_other l x.code hi lo ne
+  held_other : (l : ℕ) → (x.code ≡ l → ⊥) → length (holding l (clauses_of s)) ≡ length (holding l hi) + length (holding l lo)
+  held_other l ne = ap (λ r. length (holding l r)) o.means ∙ count_other l x.code hi lo ne
 
   none_high : length (holding x.code hi) ≡ 0
   none_high = ap length (holding_over x.code x.code hi (omega arith) o.with_over)
@@ -66,31 +67,33 @@ module _ (t : Table) (n : ℕ) (x : Node) (o : Opens t n x) (c0 : List ℕ) (roo
           let r = room l low in
           let e = total in
           elim (cases_eq l x.code) [
-            | inl s ↦ (let h : get_or c2 l 0 ≡ get_or c0 l 0 + length hi = subst (λ k. get_or c2 k 0 ≡ get_or c0 k 0 + length hi) (sym s) now_here in omega arith)
+            | inl at ↦ (let h : get_or c2 l 0 ≡ get_or c0 l 0 + length hi = subst (λ k. get_or c2 k 0 ≡ get_or c0 k 0 + length hi) (sym at) now_here in omega arith)
             | inr ne ↦ (let h = now_other l ne low in let f = few_held l hi in omega arith)
           ]
 
-      pub tallied : (c3 : List ℕ) → Tallied lo c2 c3 → Tallied (clauses t n) c0 c3
+      pub tallied : (c3 : List ℕ) → Tallied lo c2 c3 → Tallied (clauses_of s) c0 c3
       tallied c3 second l low =
           let b = second l low in
           elim (cases_eq l x.code) [
-            | inl s ↦ (
-                let h : get_or c2 l 0 ≡ get_or c0 l 0 + length hi = subst (λ k. get_or c2 k 0 ≡ get_or c0 k 0 + length hi) (sym s) now_here in
-                let z : length (holding l lo) ≡ 0 = subst (λ k. length (holding k lo) ≡ 0) (sym s) none_low in
-                let w : length (holding l (clauses t n)) ≡ length hi = subst (λ k. length (holding k (clauses t n)) ≡ length hi) (sym s) held_here in
+            | inl at ↦ (
+                let h : get_or c2 l 0 ≡ get_or c0 l 0 + length hi = subst (λ k. get_or c2 k 0 ≡ get_or c0 k 0 + length hi) (sym at) now_here in
+                let z : length (holding l lo) ≡ 0 = subst (λ k. length (holding k lo) ≡ 0) (sym at) none_low in
+                let w : length (holding l (clauses_of s)) ≡ length hi = subst (λ k. length (holding k (clauses_of s)) ≡ length hi) (sym at) held_here in
                 omega arith)
             | inr ne ↦ (let h = now_other l ne low in let w = held_other l (λ e. ne (sym e)) in omega arith)
           ]
 
 -- the two sets without nodes
-pub small_total : (t : Table) (n : ℕ) → n < 2 → n ≡ length (clauses t n)
-small_total t n two = elim (cases_eq n 0) [
-  | inl e ↦ e ∙ sym (ap length (ap (clauses t) e ∙ (ends_stand t).0))
-  | inr ne ↦ (let e : n ≡ 1 = omega arith in e ∙ sym (ap length (ap (clauses t) e ∙ (ends_stand t).1)))
-]
+pub small_total : (s : Set) → s.number < 2 → s.number ≡ length (clauses_of s)
+small_total s two =
+    let t = s.table.now in
+    elim (cases_eq s.number 0) [
+      | inl e ↦ e ∙ sym (ap length (ap (clauses t) e ∙ (ends_stand t).0))
+      | inr ne ↦ (let e : s.number ≡ 1 = omega arith in e ∙ sym (ap length (ap (clauses t) e ∙ (ends_stand t).1)))
+    ]
 
-pub small_tallied : (t : Table) (n : ℕ) → n < 2 → (counts : List ℕ) → Tallied (clauses t n) counts counts
-small_tallied t n two counts l low = let z : length (holding l (clauses t n)) ≡ 0 = ap length (holding_over l l (clauses t n) (omega arith) (small_over t n l two)) in omega arith
+pub small_tallied : (s : Set) → s.number < 2 → (counts : List ℕ) → Tallied (clauses_of s) counts counts
+small_tallied s two counts l low = let z : length (holding l (clauses_of s)) ≡ 0 = ap length (holding_over l l (clauses_of s) (omega arith) (small_over s.table.now s.number l two)) in omega arith
 
 -- from counts of 0
 

@@ -1,18 +1,17 @@
 // The empty clause.
 ghost use Rattle.std.specs.Prelude.{[], Decides};
 ghost use Rattle.qbf.specs.Lists.{In};
-ghost use Rattle.table.specs.Tables.{Number, clauses};
+ghost use Rattle.table.specs.Sets.{clauses_of};
 
-use table::Table;
+use table::Set;
 
 // Whether the empty clause is in the set: it stands at the end of the chain of without-sides.
-pub fn holds_empty(table: &Table, number: u16) -> bool
-    requires { Number table.now number }
-    ensures { Decides result (In [] (clauses table.now number)) }
+pub fn holds_empty(set: Set) -> bool
+    ensures { Decides result (In [] (clauses_of set.entry)) }
 {
-    let mut rest = number;
-    while rest >= 2 {
-        rest = table.node(rest).without;
+    let mut rest = set;
+    while let Some(branches) = rest.branches() {
+        rest = branches.without;
     }
-    rest == 1
+    rest.number() == 1
 }

@@ -6,6 +6,6 @@ mod counts;
 mod empties;
 mod units;
 
-pub use counts::{Counts, count_literals};
+pub use counts::count_literals;
 pub use empties::holds_empty;
-pub use units::{Units, find_units};
+pub use units::find_units;

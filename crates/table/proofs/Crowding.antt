@@ -5,7 +5,7 @@ use Rattle.std.proofs.lemmas.Bool.{cases_lt}
 use Rattle.qbf.specs.Lists.{In, Distinct}
 use Rattle.qbf.specs.Nodes.{Node as NodeOf}
 use Rattle.table.specs.declared.table.Table.{Table}
-use Rattle.table.specs.Tables.{clauses, Adds}
+use Rattle.table.specs.Tables.{size_of, clauses, Adds}
 use Rattle.table.specs.Laws.{Weighed, FullCrowds}
 use Rattle.table.proofs.Tables.{numbers_apart}
 
@@ -25,7 +25,7 @@ unfolding stored
 each t P zero h = tt
 each t P (suc k) h = (h (k + 2) (omega arith) (omega arith), each t P k (λ n l i. h n l (omega arith)))
 
-distinct : (t : Table) (k : ℕ) → k ≤ t.count → Distinct (stored t k)
+distinct : (t : Table) (k : ℕ) → k ≤ size_of t → Distinct (stored t k)
 unfolding stored
 distinct t zero h = tt
 distinct t (suc k) h = (
@@ -45,14 +45,14 @@ full_crowds t sets s weighed i m =
 
 -- how the nodes of a table stay nodes of the sets
 
-pub weighed_none : (t : Table) (sets : List (List (List ℕ))) → t.count ≡ 0 → Weighed t sets
+pub weighed_none : (t : Table) (sets : List (List (List ℕ))) → size_of t ≡ 0 → Weighed t sets
 weighed_none t sets e n l h = absurd (let no : ⊥ = omega arith in no)
 
 pub weighed_more : (t : Table) (sets more : List (List (List ℕ))) → ((s : List (List ℕ)) → In s sets → In s more) → Weighed t sets → Weighed t more
 weighed_more t sets more wide w n l h = let r = w n l h in (r.0, wide r.0 r.1, r.2)
 
 pub weighed_adds : (t : Table) (sets made : List (List (List ℕ))) (u : Table) → ((s : List (List ℕ)) → In s made → In s sets) → Weighed t sets → Adds t made u → Weighed u sets
-weighed_adds t sets made u wide w g n l h = elim (cases_lt n (t.count + 2)) [
+weighed_adds t sets made u wide w g n l h = elim (cases_lt n (size_of t + 2)) [
   | inl i ↦ (let r = w n l i in (r.0, r.1, subst (λ x. NodeOf x r.0) (sym (g.keeps n i)) r.2))
   | inr i ↦ (let r = g.gains n i h in (r.0, wide r.0 r.1, r.2))
 ]

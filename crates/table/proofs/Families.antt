@@ -1,14 +1,14 @@
 -- What a number stands for under more nodes.
-use Rattle.std.proofs.Common.{◌≡◌, ℕ, zero, suc, ◌+◌, ◌<◌, ◌≤◌, List, [], ◌∷◌, sym, refl, ap, ◌∙◌, inl, inr, arith}
+use Rattle.std.proofs.Common.{◌≡◌, ℕ, zero, suc, ◌+◌, ◌<◌, ◌≤◌, List, [], ◌∷◌, length, sym, refl, ap, ◌∙◌, inl, inr, arith}
 use Rattle.std.proofs.lemmas.Bool.{cond-true, cond-false, eq-eqb, ne_eqb, cases_lt}
 use Rattle.sets.specs.Sides.{joined}
 use Rattle.table.specs.declared.node.Node.{Node}
-use Rattle.table.specs.Places.{node_at, family, Falling}
+use Rattle.table.specs.Places.{node_at, family, set_of, Falling}
 
--- the first `count` nodes of xs stand first among the `more` nodes of ys
-pub record Extends (xs : List Node) (count : ℕ) (ys : List Node) (more : ℕ) : Type 0 where
-  pub grows : count ≤ more
-  pub keeps : (k : ℕ) → k < count → node_at ys k ≡ node_at xs k
+-- the nodes of xs stand first among those of ys
+pub record Extends (xs ys : List Node) : Type 0 where
+  pub grows : length xs ≤ length ys
+  pub keeps : (k : ℕ) → k < length xs → node_at ys k ≡ node_at xs k
 
 pub family_past : (xs : List Node) (k n : ℕ) → n < suc (suc k) → family xs (suc k) n ≡ family xs k n
 unfolding family
@@ -49,14 +49,14 @@ family_same xs ys (suc k) n same =
     let code : (node_at ys k).code ≡ (node_at xs k).code = ap (λ x. x.code) here in
     rw (below n, with_side, without_side, code) refl
 
-pub family_extends : {xs : List Node} {c : ℕ} {ys : List Node} {e : ℕ} → Extends xs c ys e → (n : ℕ) → n < c + 2 → family ys e n ≡ family xs c n
-family_extends {xs} {c} {ys} {e} x n h = family_below ys c e n x.grows h ∙ family_same xs ys c n x.keeps
+pub family_extends : {xs ys : List Node} → Extends xs ys → (n : ℕ) → n < length xs + 2 → set_of ys n ≡ set_of xs n
+family_extends {xs} {ys} x n h = family_below ys (length xs) (length ys) n x.grows h ∙ family_same xs ys (length xs) n x.keeps
 
 -- what a node stands for, by its sides
-pub family_node : (xs : List Node) (count k : ℕ) → Falling xs count → k < count → family xs count (k + 2) ≡ joined (node_at xs k).code (family xs count (node_at xs k).with) (family xs count (node_at xs k).without)
-family_node xs count k falling h =
+pub family_node : (xs : List Node) (k : ℕ) → Falling xs → k < length xs → set_of xs (k + 2) ≡ joined (node_at xs k).code (set_of xs (node_at xs k).with) (set_of xs (node_at xs k).without)
+family_node xs k falling h =
     let f = falling k h in
-    let up : family xs count (k + 2) ≡ family xs (suc k) (k + 2) = family_below xs (suc k) count (k + 2) h (omega arith) in
-    let with_side : family xs count (node_at xs k).with ≡ family xs k (node_at xs k).with = family_below xs k count _ (omega arith) f.0 in
-    let without_side : family xs count (node_at xs k).without ≡ family xs k (node_at xs k).without = family_below xs k count _ (omega arith) f.1 in
-    up ∙ family_top xs k (k + 2) (omega arith) ∙ sym (ap (λ s. joined (node_at xs k).code s (family xs count (node_at xs k).without)) with_side ∙ ap (λ s. joined (node_at xs k).code (family xs k (node_at xs k).with) s) without_side)
+    let up : set_of xs (k + 2) ≡ family xs (suc k) (k + 2) = family_below xs (suc k) (length xs) (k + 2) h (omega arith) in
+    let with_side : set_of xs (node_at xs k).with ≡ family xs k (node_at xs k).with = family_below xs k (length xs) _ (omega arith) f.0 in
+    let without_side : set_of xs (node_at xs k).without ≡ family xs k (node_at xs k).without = family_below xs k (length xs) _ (omega arith) f.1 in
+    up ∙ family_top xs k (k + 2) (omega arith) ∙ sym (ap (λ s. joined (node_at xs k).code s (set_of xs (node_at xs k).without)) with_side ∙ ap (λ s. joined (node_at xs k).code (family xs k (node_at xs k).with) s) without_side)

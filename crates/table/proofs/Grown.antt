@@ -6,7 +6,7 @@ use Rattle.qbf.specs.Nodes.{Node as NodeOf, node_itself}
 use Rattle.sets.specs.Sides.{Over, joined}
 use Rattle.table.specs.declared.table.Table.{Table}
 use Rattle.table.specs.Places.{node_at}
-use Rattle.table.specs.Tables.{Number, clauses, Is, Held, Adds, Misses}
+use Rattle.table.specs.Tables.{nodes_of, size_of, Number, clauses, Is, Held, Adds, Misses}
 use Rattle.table.proofs.Families.{family_extends}
 use Rattle.table.proofs.Stores.{Joins, fresh}
 use Rattle.table.proofs.Canon.{absent}
@@ -33,7 +33,7 @@ pub adds_then : (t : Table) (sets : List (List (List ℕ))) (u : Table) (w : Tab
 adds_then t sets u w g h = record {
   larger = omega (arith, g.larger, h.larger);
   keeps = λ n i. h.keeps n (omega (arith, g.larger)) ∙ g.keeps n i;
-  gains = λ n l i. elim (cases_lt n (u.count + 2)) [
+  gains = λ n l i. elim (cases_lt n (size_of u + 2)) [
     | inl j ↦ (let r = g.gains n l j in (r.0, r.1, subst (λ x. NodeOf x r.0) (sym (h.keeps n j)) r.2))
     | inr j ↦ h.gains n j i
   ];
@@ -49,11 +49,11 @@ misses_lacks s t m h = m.absent (nodes_held t s m.part h m.of_it)
 -- what a making of one node leaves
 
 module _ (t : Table) (code hi lo : ℕ) where
-  pub joined_is : (u : Table) (n : ℕ) → Joins t.nodes.at t.count code hi lo u.nodes.at u.count n → Is (joined code (clauses t hi) (clauses t lo)) u n
+  pub joined_is : (u : Table) (n : ℕ) → Joins (nodes_of t) code hi lo (nodes_of u) n → Is (joined code (clauses t hi) (clauses t lo)) u n
   unfolding clauses
   joined_is u n j = record { held = j.held; means = j.means }
 
-  pub joined_adds : (u : Table) (n : ℕ) → Joins t.nodes.at t.count code hi lo u.nodes.at u.count n → Adds t (joined code (clauses t hi) (clauses t lo) ∷ []) u
+  pub joined_adds : (u : Table) (n : ℕ) → Joins (nodes_of t) code hi lo (nodes_of u) n → Adds t (joined code (clauses t hi) (clauses t lo) ∷ []) u
   unfolding clauses
   joined_adds u n j = record {
     larger = j.extends.grows;
@@ -64,7 +64,7 @@ module _ (t : Table) (code hi lo : ℕ) where
         (joined code (clauses t hi) (clauses t lo), inl refl, subst (NodeOf (clauses u m)) (ap (clauses u) at ∙ j.means) (own_node u m h (omega arith)));
   }
 
-  pub joined_misses : t.count ≡ 4096 → 0 < hi → Number t hi → Number t lo → Over code (clauses t lo) → ((k : ℕ) → k < t.count → node_at t.nodes.at k ≡ fresh code hi lo → ⊥) → Misses (joined code (clauses t hi) (clauses t lo)) t
+  pub joined_misses : size_of t ≡ 4096 → 0 < hi → Number t hi → Number t lo → Over code (clauses t lo) → ((k : ℕ) → k < size_of t → node_at (nodes_of t) k ≡ fresh code hi lo → ⊥) → Misses (joined code (clauses t hi) (clauses t lo)) t
   unfolding clauses
   joined_misses full pos hi_held lo_held lower lacks =
       let s = joined code (clauses t hi) (clauses t lo) in
@@ -73,7 +73,7 @@ module _ (t : Table) (code hi lo : ℕ) where
         full = full;
         part = s;
         of_it = subst (λ z. NodeOf (joined code z (clauses t lo)) (joined code z (clauses t lo))) (sym w.2) (own code w.0 w.1 (clauses t lo));
-        absent = λ h. absent _ _ (sound t) code hi lo pos hi_held lo_held lower lacks h.0 h.1.held h.1.means;
+        absent = λ h. absent _ (sound t) code hi lo pos hi_held lo_held lower lacks h.0 h.1.held h.1.means;
       }
     where
       own : (k : ℕ) (c : List ℕ) (cs s : List (List ℕ)) → NodeOf (joined k (c ∷ cs) s) (joined k (c ∷ cs) s)

@@ -1,6 +1,7 @@
 -- Tables: what the numbers stand for, and how a table grows.
 use Rattle.std.proofs.Common.{◌≡◌, ℕ, zero, suc, ◌+◌, ◌-◌, ◌<◌, ◌≤◌, List, [], ◌∷◌, sym, refl, ap, ◌∙◌, subst, inl, inr, arith}
 use Rattle.std.specs.List.{AllByRecursion}
+use Rattle.std.proofs.lemmas.List.{length-take}
 use Rattle.std.proofs.lemmas.Bool.{cases_eq}
 use Rattle.qbf.specs.Nodes.{Node as NodeOf, node_itself}
 use Rattle.sets.specs.Sides.{Over, joined}
@@ -8,21 +9,24 @@ use Rattle.sets.proofs.Joined.{node_low, node_high, node_cases, node_none}
 use Rattle.table.specs.declared.node.Node.{Node}
 use Rattle.table.specs.declared.table.Table.{Table}
 use Rattle.table.specs.Places.{node_at}
-use Rattle.table.specs.Tables.{Number, clauses, Held, Opens}
-use Rattle.table.specs.Laws.{EndsStand, SetsFormed, SetsCoded, NumbersApart, NodesReached, Reached, reached_itself, reached_with, reached_without}
+use Rattle.table.specs.Tables.{nodes_of, size_of, Number, clauses, Held, Opens}
+use Rattle.table.specs.Laws.{EndsStand, SizesFit, SetsFormed, SetsCoded, NumbersApart, NodesReached, Reached, reached_itself, reached_with, reached_without}
 use Rattle.table.proofs.Families.{family_zero, family_one}
 use Rattle.table.proofs.Stores.{Sound}
 use Rattle.table.proofs.Probes.{Indexed}
 use Rattle.table.proofs.Canon.{cases_number, at_node, over, formed, filled, leads, canonical}
 
-pub sound : (t : Table) → Sound t.nodes.at t.count
-sound t = record { fits = t.fits; filled = t.filled; climbing = t.climbing; falling = t.falling; apart = t.apart; coded = t.coded }
+pub sound : (t : Table) → Sound (nodes_of t)
+sound t = record { filled = t.filled; climbing = t.climbing; falling = t.falling; apart = t.apart; coded = t.coded }
 
-pub indexed : (t : Table) → Indexed t.nodes.at t.count t.index.at
+pub indexed : (t : Table) → Indexed (nodes_of t) t.index.at
 indexed t = record { findable = t.findable; spare = t.spare }
 
 abbrev pub top : Table → ℕ → Node
-top t n = node_at t.nodes.at (n - 2)
+top t n = node_at (nodes_of t) (n - 2)
+
+pub sizes_fit : SizesFit
+sizes_fit t = omega (arith, length-take t.nodes.len t.nodes.at)
 
 pub ends_stand : EndsStand
 unfolding clauses
@@ -37,23 +41,23 @@ small_over t n k two = elim (cases_eq n 0) [
 
 pub sets_formed : SetsFormed
 unfolding clauses
-sets_formed t n h = formed _ _ (sound t) n h
+sets_formed t n h = formed _ (sound t) n h
 
 pub numbers_apart : NumbersApart
 unfolding clauses
-numbers_apart t m n h i e = canonical _ _ (sound t) m n h i e
+numbers_apart t m n h i e = canonical _ (sound t) m n h i e
 
 -- a set with a node, by its node
 pub opens : (t : Table) (n : ℕ) → Number t n → 2 ≤ n → Opens t n (top t n)
 unfolding clauses
 opens t n held two =
-    let at : n - 2 < t.count = omega arith in
+    let at : n - 2 < size_of t = omega arith in
     let f = t.falling (n - 2) at in
     let r = t.climbing (n - 2) at in
     record {
-      means = at_node _ _ (sound t) n (n - 2) at (omega arith);
-      with_over = over _ _ (sound t) (top t n).with (top t n).code (omega (arith, at)) r.0;
-      without_over = over _ _ (sound t) (top t n).without (top t n).code (omega (arith, at)) r.1;
+      means = at_node _ (sound t) n (n - 2) at (omega arith);
+      with_over = over _ (sound t) (top t n).with (top t n).code (omega (arith, at)) r.0;
+      without_over = over _ (sound t) (top t n).without (top t n).code (omega (arith, at)) r.1;
       filled = t.filled (n - 2) at;
       with_less = omega arith;
       without_less = omega arith;
@@ -67,7 +71,7 @@ coded_joined k (c ∷ hi) lo l a b = ((l, a.0), coded_joined k hi lo l a.1 b)
 coded_by : (t : Table) (b n : ℕ) → n < b → Number t n → AllByRecursion (AllByRecursion (λ y. y < 512)) (clauses t n)
 coded_by t zero n l h = absurd (let no : ⊥ = omega arith in no)
 coded_by t (suc b) n l h =
-    elim (cases_number n t.count h) [
+    elim (cases_number n (size_of t) h) [
       | inl e ↦ subst (AllByRecursion (AllByRecursion (λ y. y < 512))) (sym (ap (clauses t) e ∙ (ends_stand t).0)) tt
       | inr rest ↦ elim rest [
         | inl e ↦ subst (AllByRecursion (AllByRecursion (λ y. y < 512))) (sym (ap (clauses t) e ∙ (ends_stand t).1)) (tt, tt)
@@ -85,13 +89,13 @@ sets_coded t n h = coded_by t (suc n) n (omega arith) h
 -- a number from 1 on stands for a set with a clause
 pub has_clause : (t : Table) (n : ℕ) → Number t n → 0 < n → (c : List ℕ) × (cs : List (List ℕ)) × (clauses t n ≡ c ∷ cs)
 unfolding clauses
-has_clause t n h pos = filled _ _ (sound t) n h pos
+has_clause t n h pos = filled _ (sound t) n h pos
 
 -- a set with a node begins with the node's code, and is a node of itself
 pub own_node : (t : Table) (n : ℕ) → Number t n → 2 ≤ n → NodeOf (clauses t n) (clauses t n)
 unfolding clauses
 own_node t n h two =
-    let l = leads _ _ (sound t) n (n - 2) (omega arith) (omega arith) in
+    let l = leads _ (sound t) n (n - 2) (omega arith) (omega arith) in
     subst (λ s. NodeOf s s) (sym l.2) (node_itself refl)
 
 -- the nodes of a set are those that are reached from its number
@@ -99,7 +103,7 @@ own_node t n h two =
 each_by : (t : Table) (b n : ℕ) → n < b → Number t n → (x : List (List ℕ)) → NodeOf x (clauses t n) → (m : ℕ) × Number t m × Reached t m n × (clauses t m ≡ x)
 each_by t zero n l h x i = absurd (let no : ⊥ = omega arith in no)
 each_by t (suc b) n l h x i =
-    elim (cases_number n t.count h) [
+    elim (cases_number n (size_of t) h) [
       | inl e ↦ absurd (node_none i (inl (ap (clauses t) e ∙ (ends_stand t).0)))
       | inr rest ↦ elim rest [
         | inl e ↦ absurd (node_none i (inr (ap (clauses t) e ∙ (ends_stand t).1)))

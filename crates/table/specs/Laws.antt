@@ -6,11 +6,15 @@ use Rattle.qbf.specs.Lists.{In}
 use Rattle.qbf.specs.Nodes.{Node as NodeOf, Crowded}
 use Rattle.table.specs.declared.table.Table.{Table}
 use Rattle.table.specs.Places.{node_at}
-use Rattle.table.specs.Tables.{Number, clauses, Misses}
+use Rattle.table.specs.Tables.{nodes_of, size_of, Number, clauses, Misses}
 
 -- the numbers 0 and 1 stand for the two sets without nodes
 abbrev pub EndsStand : Type 0
 EndsStand = (t : Table) → (clauses t 0 ≡ []) × (clauses t 1 ≡ [] ∷ [])
+
+-- no table has more than 4,096 nodes
+abbrev pub SizesFit : Type 0
+SizesFit = (t : Table) → size_of t ≤ 4096
 
 -- each number stands for a set in its one form
 abbrev pub SetsFormed : Type 0
@@ -27,8 +31,8 @@ NumbersApart = (t : Table) (m n : ℕ) → Number t m → Number t n → clauses
 -- the node m is reached from n: it is n's own, or reached from one of n's sides
 pub data Reached (t : Table) (m : ℕ) : ℕ → Type 0 where
   reached_itself : {n : ℕ} → 2 ≤ n → m ≡ n → Reached t m n
-  reached_with : {n : ℕ} → 2 ≤ n → Reached t m (node_at t.nodes.at (n - 2)).with → Reached t m n
-  reached_without : {n : ℕ} → 2 ≤ n → Reached t m (node_at t.nodes.at (n - 2)).without → Reached t m n
+  reached_with : {n : ℕ} → 2 ≤ n → Reached t m (node_at (nodes_of t) (n - 2)).with → Reached t m n
+  reached_without : {n : ℕ} → 2 ≤ n → Reached t m (node_at (nodes_of t) (n - 2)).without → Reached t m n
 
 -- the nodes of a set are exactly the table's nodes reached from its number
 pub record NodesExact (t : Table) (n : ℕ) : Type 0 where

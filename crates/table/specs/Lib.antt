@@ -1,4 +1,5 @@
 pub mod Places
 pub mod Probing
 pub mod Tables
+pub mod Sets
 pub mod Laws

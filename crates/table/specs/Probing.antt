@@ -1,6 +1,6 @@
 -- The index of the nodes, and the lookup of a node in it.
 -- A lookup begins at a place that the node gives, its home, and goes on from place to place, behind the last to the first, until it comes to the record with the node's number or to a free one.
-use Rattle.std.specs.Prelude.{◌≡◌, ℕ, ◌+◌, ◌-◌, ◌*◌, ◌%◌, ◌<◌, ◌≤◌, min, ◌⊎◌, List, [], ◌∷◌, slice_index_or}
+use Rattle.std.specs.Prelude.{◌≡◌, ℕ, ◌+◌, ◌-◌, ◌*◌, ◌%◌, ◌<◌, ◌≤◌, min, ◌⊎◌, List, [], ◌∷◌, length, slice_index_or}
 use Rattle.table.specs.declared.node.Node.{Node}
 use Rattle.table.specs.declared.index.Slot.{Slot}
 use Rattle.table.specs.Places.{node_at}
@@ -20,19 +20,19 @@ home x = (x.code * 5011 + x.with * 2609 + x.without * 3163) % 8192
 abbrev pub steps : ℕ → ℕ → ℕ
 steps from to = (to + (8192 - from)) % 8192
 
--- n is the number of the node x, one of the first `count` nodes
-abbrev pub Numbers : List Node → ℕ → ℕ → Node → Type 0
-Numbers xs count n x = (2 ≤ n) × (n < count + 2) × (node_at xs (n - 2) ≡ x)
+-- n is the number of the node x
+abbrev pub Numbers : List Node → ℕ → Node → Type 0
+Numbers xs n x = (2 ≤ n) × (n < length xs + 2) × (node_at xs (n - 2) ≡ x)
 
 -- the lookup of the node x ends at this record: it is free, or has the node's number
-abbrev pub Ends : List Node → ℕ → Node → Slot → Type 0
-Ends xs count x s = (s.number ≡ 0) ⊎ Numbers xs count s.number x
+abbrev pub Ends : List Node → Node → Slot → Type 0
+Ends xs x s = (s.number ≡ 0) ⊎ Numbers xs s.number x
 
 -- the lookup of the node x ends at the place p, and at none before it
-pub record Sought (rs : List Slot) (xs : List Node) (count : ℕ) (x : Node) (p : ℕ) : Type 0 where
+pub record Sought (rs : List Slot) (xs : List Node) (x : Node) (p : ℕ) : Type 0 where
   pub inside : p < 8192
-  pub ends : Ends xs count x (slot_at rs p)
-  pub first : (q : ℕ) → q < 8192 → steps (home x) q < steps (home x) p → Ends xs count x (slot_at rs q) → ⊥
+  pub ends : Ends xs x (slot_at rs p)
+  pub first : (q : ℕ) → q < 8192 → steps (home x) q < steps (home x) p → Ends xs x (slot_at rs q) → ⊥
 
 -- how many records are in use
 unfoldable pub used : List Slot → ℕ
@@ -45,11 +45,11 @@ pub record Idle (rs : List Slot) : Type 0 where
   pub none : used rs ≡ 0
 
 -- on the way from the home of the node x to the free place p stands no record with the number of x
-pub record Strays (xs : List Node) (count : ℕ) (rs : List Slot) (x : Node) (p : ℕ) : Type 0 where
+pub record Strays (xs : List Node) (rs : List Slot) (x : Node) (p : ℕ) : Type 0 where
   pub inside : p < 8192
   pub free : (slot_at rs p).number ≡ 0
-  pub passed : (q : ℕ) → q < 8192 → steps (home x) q < steps (home x) p → Numbers xs count (slot_at rs q).number x → ⊥
+  pub passed : (q : ℕ) → q < 8192 → steps (home x) q < steps (home x) p → Numbers xs (slot_at rs q).number x → ⊥
 
 -- of no node of the table is that so: its lookup meets its record before any free one
-abbrev pub Findable : List Node → ℕ → List Slot → Type 0
-Findable xs count rs = (k : ℕ) → k < count → (p : ℕ) → Strays xs count rs (node_at xs k) p → ⊥
+abbrev pub Findable : List Node → List Slot → Type 0
+Findable xs rs = (k : ℕ) → k < length xs → (p : ℕ) → Strays xs rs (node_at xs k) p → ⊥

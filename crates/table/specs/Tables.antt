@@ -1,21 +1,30 @@
 -- What a table stands for, and how it grows.
-use Rattle.std.specs.Prelude.{◌≡◌, ℕ, ◌+◌, ◌<◌, ◌≤◌, List, [], ◌∷◌, ◌++◌, Result, MatchResult}
+use Rattle.std.specs.Prelude.{◌≡◌, ℕ, ◌+◌, ◌<◌, ◌≤◌, List, [], ◌∷◌, ◌++◌, length, Result, MatchResult}
 use Rattle.std.specs.List.{AllByRecursion}
 use Rattle.qbf.specs.Lists.{In}
 use Rattle.qbf.specs.Nodes.{Node as NodeOf}
 use Rattle.sets.specs.Sides.{Over, joined}
+use Rattle.arrays.specs.Lists.{items_of}
 use Rattle.table.specs.declared.node.Node.{Node}
 use Rattle.table.specs.declared.table.Full.{Full}
 use Rattle.table.specs.declared.table.Table.{Table}
-use Rattle.table.specs.Places.{family}
+use Rattle.table.specs.Places.{set_of}
+
+-- the nodes, in the order in which they were made
+abbrev pub nodes_of : Table → List Node
+nodes_of t = items_of t.nodes
+
+-- how many nodes there are
+abbrev pub size_of : Table → ℕ
+size_of t = length (nodes_of t)
 
 -- n is a number of the table: one of the two sets without nodes, or a node's
 abbrev pub Number : Table → ℕ → Type 0
-Number t n = n < t.count + 2
+Number t n = n < size_of t + 2
 
 -- the set that the number n stands for
 unfoldable pub clauses : Table → ℕ → List (List ℕ)
-clauses t n = family t.nodes.at t.count n
+clauses t n = set_of (nodes_of t) n
 
 -- n is the number of the set s
 pub record Is (s : List (List ℕ)) (t : Table) (n : ℕ) : Type 0 where
@@ -28,13 +37,13 @@ Held t s = (n : ℕ) × Is s t n
 
 -- the table t has become u: no node is lost, the numbers of t stand for what they stood for, and each new one for a node of one of the sets
 pub record Adds (t : Table) (sets : List (List (List ℕ))) (u : Table) : Type 0 where
-  pub larger : t.count ≤ u.count
+  pub larger : size_of t ≤ size_of u
   pub keeps : (n : ℕ) → Number t n → clauses u n ≡ clauses t n
-  pub gains : (n : ℕ) → t.count + 2 ≤ n → Number u n → (s : List (List ℕ)) × In s sets × NodeOf (clauses u n) s
+  pub gains : (n : ℕ) → size_of t + 2 ≤ n → Number u n → (s : List (List ℕ)) × In s sets × NodeOf (clauses u n) s
 
 -- the table holds 4,096 nodes and lacks a node of the set s
 pub record Misses (s : List (List ℕ)) (t : Table) : Type 0 where
-  pub full : t.count ≡ 4096
+  pub full : size_of t ≡ 4096
   pub part : List (List ℕ)
   pub of_it : NodeOf part s
   pub absent : Held t part → ⊥

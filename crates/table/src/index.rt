@@ -1,11 +1,11 @@
 // The index of a table's nodes: a record for each, found in a few steps from a place that the node itself gives.
-ghost use Rattle.std.specs.Prelude.{◌≡◌, ◌<◌, ◌≤◌, length, slice_set};
+ghost use Rattle.std.specs.Prelude.{◌≡◌, ◌<◌, slice_set};
 ghost use Rattle.table.specs.Probing.{home, used, Ends, Idle, Sought};
 
-use crate::node::{Node, Nodes};
+use crate::node::Node;
 use lookup::{Keyed, find};
 
-// A record: the number of a node. A record with number 0, which no node has, is free.
+// A record: the number of a node. A record with number 0, which no node has, is free; an `Option` would take twice the room.
 #[derive(Clone, Copy)]
 pub struct Slot {
     pub number: u16,
@@ -20,14 +20,14 @@ pub struct Probe<'a> {
 
 // The lookup of a node ends at the record with its number, or at a free one, where the node's would stand.
 impl<'a> Keyed<Probe<'a>> for Slot {
-    ghost has = { λ slot key. Ends key.nodes.now (length key.nodes.now) key.node slot };
+    ghost has = { λ slot key. Ends key.nodes.now key.node slot };
 
     fn is(&self, key: &Probe<'a>) -> bool {
-        let number = self.number as usize;
-        if number < 2 {
-            return number == 0;
+        match usize::from(self.number) {
+            0 => true,
+            1 => false,
+            number => number - 2 < key.nodes.len() && key.nodes[number - 2].is(&key.node),
         }
-        number - 2 < key.nodes.len() && key.nodes[number - 2].is(&key.node)
     }
 }
 
@@ -51,29 +51,23 @@ impl Index {
     fn home(node: &Node) -> usize
         ensures { result ≡ home node.now }
     {
-        (node.code as usize * 5011 + node.with as usize * 2609 + node.without as usize * 3163)
-            % 8192
+        let code = usize::from(node.code);
+        let with = usize::from(node.with);
+        let without = usize::from(node.without);
+        (code * 5011 + with * 2609 + without * 3163) % 8192
     }
 
-    // The first place from the node's home on, and then from the start, whose record is free or has the node's number,
-    // where only the first nodes count.
-    pub fn seek(&self, node: Node, nodes: &Nodes, count: usize) -> usize
-        requires room { used self.now.at < 8192 }
-        requires fits { count ≤ 4096 }
-        ensures { Sought self.now.at nodes.now.at count node result }
+    // The first place from the node's home on, and then from the start, whose record is free or has the node's number.
+    pub fn seek(&self, node: Node, nodes: &[Node]) -> usize
+        requires { used self.now.at < 8192 }
+        ensures { Sought self.now.at nodes.now node result }
     {
         let start = Index::home(&node);
-        let probe = Probe {
-            node,
-            nodes: &nodes.at[..count],
-        };
+        let probe = Probe { node, nodes };
         if let Some(ahead) = find(&self.at[start..], &probe) {
             return start + ahead;
         }
-        match find(&self.at[..start], &probe) {
-            Some(place) => place,
-            None => unreachable(),
-        }
+        find(&self.at[..start], &probe).unwrap()
     }
 
     pub fn store(&mut self, place: usize, slot: Slot)

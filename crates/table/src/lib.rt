@@ -3,22 +3,23 @@
 // and the numbers from 2 on for the nodes. No two numbers stand for one set, and a number keeps its set as the table grows.
 #![tactic(auto)]
 
-ghost use Rattle.table.specs.Laws.{EndsStand, SetsFormed, SetsCoded, NumbersApart, NodesReached, FullCrowds};
+ghost use Rattle.table.specs.Laws.{EndsStand, SizesFit, SetsFormed, SetsCoded, NumbersApart, NodesReached, FullCrowds};
 
 mod index;
 mod node;
+mod set;
 mod table;
 
 pub use node::Node;
+pub use set::{Branches, Set};
 pub use table::{Full, Table};
 
-pub fn sets_stand() -> u8
+pub fn sets_stand()
     ensures ends { EndsStand }
+    ensures fits { SizesFit }
     ensures formed { SetsFormed }
     ensures coded { SetsCoded }
     ensures apart { NumbersApart }
     ensures reached { NodesReached }
     ensures crowded { FullCrowds }
-{
-    0
-}
+{}

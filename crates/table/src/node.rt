@@ -1,5 +1,5 @@
-// A node, and the array that nodes are kept in.
-ghost use Rattle.std.specs.Prelude.{◌≡◌, ◌<◌, max, length, set, slice_set};
+// A node.
+ghost use Rattle.std.specs.Prelude.{◌≡◌, max};
 
 use lookup::Keyed;
 
@@ -16,11 +16,7 @@ impl Node {
     pub fn larger_side(&self) -> u16
         ensures { result ≡ max self.now.with self.now.without }
     {
-        if self.with < self.without {
-            self.without
-        } else {
-            self.with
-        }
+        self.with.max(self.without)
     }
 }
 
@@ -29,21 +25,6 @@ impl Keyed<Node> for Node {
     ghost has = { λ x key. x ≡ key };
 
     fn is(&self, key: &Node) -> bool {
-        self.code == key.code && self.with == key.with && self.without == key.without
-    }
-}
-
-#[derive(Clone, Copy)]
-pub struct Nodes {
-    pub at: [Node; 4096],
-    ghost long: { length at ≡ 4096 },
-}
-
-impl Nodes {
-    pub fn store(&mut self, place: usize, node: Node)
-        requires { place < 4096 }
-        ensures { self.new.at ≡ slice_set self.old.at place node }
-    {
-        self.at[place] = node;
+        self == key
     }
 }

@@ -7,18 +7,17 @@ use Rattle.table.proofs.Tables.{ends_stand}
 use Rattle.diagram.proofs.Steps.{Split, there, made_as, refused_high, refused_low, ready_high, ready_low, ready_high_over, ready_low_over, made}
 use Rattle.diagram.proofs.Cofactors.{union_split, union_kept}
 use Rattle.diagram.proofs.pair.+union.Goals as goal
-use Rattle.diagram.proofs.pair.+union.Goals.{After-sides_at-right, In_ok-with}
+use Rattle.diagram.proofs.pair.+union.Goals.{After-sides_at-right, In_ok-with, then-a-b-via-then-a-b, then-a-b-via-else-a-b+then-b-eq0}
 
 pub returns-then-a-b : goal.returns-then-a-b
 returns-then-a-b t c =
     let x = c.args.table.now in
-    there x _ c.args.a c.requires.a_held (sym (ap (λ n. union (clauses x c.args.a) (clauses x n)) (sym c.if-a-b.true) ∙ union_self (clauses x c.args.a)))
-
-pub returns-then-b-eq0 : goal.returns-then-b-eq0
-returns-then-b-eq0 t c =
-    let x = c.args.table.now in
-    let none : clauses x c.args.b ≡ [] = ap (clauses x) c.if-b-eq0.true ∙ (ends_stand x).0 in
-    there x _ c.args.a c.requires.a_held (sym (ap (union (clauses x c.args.a)) none ∙ union_nil (clauses x c.args.a)))
+    there x _ c.args.a c.requires.a_held (elim c.then-a-b.branch [
+      | then-a-b-via-then-a-b w ↦ sym (ap (λ n. union (clauses x c.args.a) (clauses x n)) (sym w.if-a-b.true) ∙ union_self (clauses x c.args.a))
+      | then-a-b-via-else-a-b+then-b-eq0 w ↦
+          let none : clauses x c.args.b ≡ [] = ap (clauses x) w.if-b-eq0.true ∙ (ends_stand x).0 in
+          sym (ap (union (clauses x c.args.a)) none ∙ union_nil (clauses x c.args.a))
+    ])
 
 pub returns-then-a-eq0 : goal.returns-then-a-eq0
 returns-then-a-eq0 t c =

@@ -1,8 +1,8 @@
 use Rattle.survey.proofs.Chains.{alike_without, alike_end}
 use Rattle.survey.proofs.empties.holds_empty.Goals as goal
 
-pub loop-rest-preserved : goal.loop-rest-preserved
-loop-rest-preserved c = alike_without c.args.table.now c.args.number c.loop-rest.rest c.node-rest.result c.node-rest.ensures c.loop-rest.invariant
+pub loop-branches-preserved : goal.loop-branches-preserved
+loop-branches-preserved c = alike_without _ _ _ c.in-Some.ensures c.loop-branches.invariant
 
 pub returns : goal.returns
-returns c = alike_end c.args.table.now c.args.number c.loop-rest.rest c.loop-rest-test.false c.loop-rest.invariant
+returns c = rw c.number.ensures (alike_end _ c.loop-branches.rest c.in_default.ensures c.loop-branches.invariant)

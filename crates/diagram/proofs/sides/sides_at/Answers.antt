@@ -1,8 +1,5 @@
-use Rattle.diagram.proofs.Cofactors.{sided_here, sided_past, sided_small}
-use Rattle.diagram.proofs.pair.sides_at.Goals as goal
-
-pub returns-then-node-code : goal.returns-then-node-code
-returns-then-node-code c = sided_here c.args.table.now c.args.number c.args.code _ c.node-node.ensures c.if-node-code.true
+use Rattle.diagram.proofs.Cofactors.{sided_past, sided_small}
+use Rattle.diagram.proofs.sides.sides_at.Goals as goal
 
 pub returns-else-node-code : goal.returns-else-node-code
 returns-else-node-code c = sided_past c.args.table.now c.args.number c.args.code _ c.requires.held c.node-node.ensures c.requires.from c.if-node-code.false
