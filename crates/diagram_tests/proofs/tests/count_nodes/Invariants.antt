@@ -1,5 +1,5 @@
-use Rattle.std.proofs.Common.{◌≡◌, ◌+◌, ◌≤◌, length}
+use Rattle.std.proofs.Common.{◌≡◌, length}
 use Rattle.diagram_tests.proofs.tests.count_nodes.Given as goal
 
 abbrev pub invariant-loop-n : goal.invariant-loop-n
-invariant-loop-n l = (length l.reached ≡ 4098) × (l.count + l.n ≤ 65536)
+invariant-loop-n l = length l.reached ≡ 4098
