@@ -1,7 +1,7 @@
 -- The laws of 'each literal once', 'both signs' and 'the same literals'.
 use Rattle.std.proofs.Common.{◌≡◌, ℕ, ◌<◌, ◌≤◌, Bool, true, false, ◌||◌, eqb, ◌⊎◌, List, [], ◌∷◌, ◌++◌, length, Decides, sym, refl, ap, ◌∙◌, subst, inl, inr, ⊎_elim, append-nil, arith}
 use Rattle.std.specs.List.{AllByRecursion, list_all, list_any}
-use Rattle.std.proofs.lemmas.Bool.{both_ways, cases_Bool, cases_eq, cond-true, cond-false, eq-eqb, ne_eqb, or_left, or_right, or_cases, and_parts, and_from}
+use Rattle.std.proofs.lemmas.Bool.{both_ways, cases_eq, cond-true, cond-false, eq-eqb, ne_eqb, or_left, or_right, or_cases, and_parts, and_from, false_from_ne_true}
 use Rattle.std.proofs.lemmas.Bool.Decides.{same_from_decides, Decides-like, Decides-and, Decides-or}
 use Rattle.qbf.specs.Literals.{complement}
 use Rattle.qbf.specs.Lists.{In, Distinct, mem, without}
@@ -155,7 +155,7 @@ same_length a b da db e =
 
 -- so two lists with another number of distinct codes are not the same
 pub other_length : (a b : List ℕ) → Distinct a → Distinct b → (length a ≡ length b → ⊥) → same_set a b ≡ false
-other_length a b da db n = ⊎_elim (λ e. absurd (n (same_length a b da db e))) (λ e. e) (cases_Bool (same_set a b))
+other_length a b da db n = false_from_ne_true _ (λ e. n (same_length a b da db e))
 
 pub once_stands_lem : OnceStands
 once_stands_lem = (

@@ -37,8 +37,7 @@ reaches text (w ∷ ws) p d f h = go (reaches text ws) (stepped p d w) refl
         record { last = r.last; draft = r.draft; leads = on (step_goes p x.0 d x.1 w is) r.leads; finishes = r.finishes }
     go ih (Err r) is =
         let g : refuse r w.at ≡ Ok f = sym (ap (λ (n : Next). after n w.at (λ q e. read_from q e text ws)) is) ∙ h in
-        let z : ◌≡◌ {A = ℕ} 0 1 = cc in
-        absurd (omega arith)
+        cc
 
 same_reading : (f g : Reading) (x : Answer) → x ≡ Ok f → x ≡ Ok g → f ≡ g
 same_reading f g x p q = cc
@@ -53,7 +52,7 @@ finished : (p : Place) (d : Draft) (text : List ℕ) (f : Reading) → finish p 
 finished p d text f h = at_rest (rests p && ended text) refl
   where
     counted : (t : Bool) → ltb d.finished d.declared ≡ t → (rests p && ended text) ≡ true → Finished p d text f
-    counted true t k = let g = sym (cond-true _ _ _ k ∙ cond-true _ _ _ t) ∙ h in let z : ◌≡◌ {A = ℕ} 0 1 = cc in absurd (omega arith)
+    counted true t k = let g = sym (cond-true _ _ _ k ∙ cond-true _ _ _ t) ∙ h in cc
     counted false t k =
         let a = and_parts (rests p) (ended text) k in
         let g = cond-true _ _ _ k ∙ cond-false _ _ _ t in
@@ -61,7 +60,7 @@ finished p d text f h = at_rest (rests p && ended text) refl
 
     at_rest : (t : Bool) → (rests p && ended text) ≡ t → Finished p d text f
     at_rest true t = counted (ltb d.finished d.declared) refl t
-    at_rest false t = let g = sym (cond-false _ _ _ t) ∙ h in let z : ◌≡◌ {A = ℕ} 0 1 = cc in absurd (omega arith)
+    at_rest false t = let g = sym (cond-false _ _ _ t) ∙ h in cc
 
 -- no variable is bound twice, wherever words lead
 pub distinct_kept : {p q : Place} {d e : Draft} {ws : List Token} → Leads p d ws q e → Distinct (variables_of d.prefix) → Distinct (variables_of e.prefix)
@@ -184,5 +183,5 @@ ok_format text f h = on_length (ltb 60000 (length text)) refl
         subst (HasFormat text) g.is made
 
     on_length : (t : Bool) → ltb 60000 (length text) ≡ t → HasFormat text f
-    on_length true t = let g = sym (cond-true _ _ _ t) ∙ h in let z : ◌≡◌ {A = ℕ} 0 1 = cc in absurd (omega arith)
+    on_length true t = let g = sym (cond-true _ _ _ t) ∙ h in cc
     on_length false t = formatted (ltb-false 60000 (length text) t) (reaches text (words_of text) Problem empty f (sym (cond-false _ _ _ t) ∙ h))

@@ -1,5 +1,5 @@
 -- A prefix that binds no variable twice.
-use Rattle.std.proofs.Common.{◌≡◌, ℕ, ◌+◌, Bool, true, false, eqb, List, [], ◌∷◌, ◌++◌, is_some, Some, None, Option, sym, refl, ◌∙◌, arith}
+use Rattle.std.proofs.Common.{◌≡◌, ℕ, ◌+◌, Bool, true, false, eqb, List, [], ◌∷◌, ◌++◌, is_some, Some, None, Option, sym, refl, ◌∙◌}
 use Rattle.std.proofs.lemmas.Bool.{both_ways, cond-true, cond-false, eqb-false, ne_eqb}
 use Rattle.std.specs.List.{AllByRecursion}
 use Rattle.qbf.specs.Lists.{Distinct}
@@ -16,7 +16,7 @@ not_bound k n [] e = tt
 not_bound k n (b ∷ bs) e = on (not_bound (k + 1) n bs) (eqb b.variable n) refl
   where
     on : (position_from (k + 1) n bs ≡ None → AllByRecursion (λ x. x ≡ n → ⊥) (variables_of bs)) → (t : Bool) → eqb b.variable n ≡ t → AllByRecursion (λ x. x ≡ n → ⊥) (variables_of (b ∷ bs))
-    on ih true t = let f = sym (cond-true _ _ _ t) ∙ e in let z : ◌≡◌ {A = ℕ} 0 1 = cc in absurd (omega arith)
+    on ih true t = let f = sym (cond-true _ _ _ t) ∙ e in cc
     on ih false t = (eqb-false _ n t, ih (sym (cond-false _ _ _ t) ∙ e))
 
 -- the same, by the test

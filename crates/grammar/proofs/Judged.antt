@@ -1,5 +1,5 @@
 -- What the answer of a step says of the rules.
-use Rattle.std.proofs.Common.{◌≡◌, ℕ, ◌≤◌, Bool, true, false, Ok, Err, sym, refl, ◌∙◌, subst, arith}
+use Rattle.std.proofs.Common.{◌≡◌, ◌≤◌, Bool, true, false, Ok, Err, sym, refl, ◌∙◌, subst, arith}
 use Rattle.std.proofs.lemmas.Bool.{false≢true, cond-true}
 use Rattle.words.specs.Words.{Token}
 use Rattle.grammar.specs.declared.fault.Rule.{Rule}
@@ -59,7 +59,7 @@ found false true b u c x r e = let z : OutOfRange ≡ r = cc in subst (λ (s : R
 found false false true u c x r e = let z : BoundTwice ≡ r = cc in subst (λ (s : Rule). choice s false false true u c ≡ true) z refl
 found false false false true c x r e = let z : Unbound ≡ r = cc in subst (λ (s : Rule). choice s false false false true c ≡ true) z refl
 found false false false false true x r e = let z : ClauseCount ≡ r = cc in subst (λ (s : Rule). choice s false false false false true ≡ true) z refl
-found false false false false false x r e = let z : ◌≡◌ {A = ℕ} 0 1 = cc in absurd (omega arith)
+found false false false false false x r e = cc
 
 pub step_broken : (r : Rule) (p : Place) (d : Draft) (w : Token) → stepped p d w ≡ Err r → breaks r p d w ≡ true
 step_broken r p d w e = sym (choice_is r p d w) ∙ found _ _ _ _ _ (target p d w) r (sym (rank p d w) ∙ e)
@@ -76,11 +76,11 @@ abbrev AllFalse : Bool → Bool → Bool → Bool → Bool → Type 0
 AllFalse m o b u c = (m ≡ false) × (o ≡ false) × (b ≡ false) × (u ≡ false) × (c ≡ false)
 
 clear : (m o b u c : Bool) (x y : Place × Draft) → ranked m o b u c x ≡ Ok y → AllFalse m o b u c × (x ≡ y)
-clear true o b u c x y e = let z : ◌≡◌ {A = ℕ} 0 1 = cc in absurd (omega arith)
-clear false true b u c x y e = let z : ◌≡◌ {A = ℕ} 0 1 = cc in absurd (omega arith)
-clear false false true u c x y e = let z : ◌≡◌ {A = ℕ} 0 1 = cc in absurd (omega arith)
-clear false false false true c x y e = let z : ◌≡◌ {A = ℕ} 0 1 = cc in absurd (omega arith)
-clear false false false false true x y e = let z : ◌≡◌ {A = ℕ} 0 1 = cc in absurd (omega arith)
+clear true o b u c x y e = cc
+clear false true b u c x y e = cc
+clear false false true u c x y e = cc
+clear false false false true c x y e = cc
+clear false false false false true x y e = cc
 clear false false false false false x y e = ((refl, refl, refl, refl, refl), cc)
 
 pub step_clear : (p : Place) (d : Draft) (w : Token) (y : Place × Draft) → stepped p d w ≡ Ok y → Clear p d w × (target p d w ≡ y)

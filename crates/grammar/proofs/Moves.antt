@@ -1,6 +1,6 @@
 -- A word leads on exactly where it stands right.
 use Rattle.std.proofs.Common.{◌≡◌, ℕ, ◌<◌, Bool, true, false, not, ◌&&◌, ltb, List, is_some, Some, None, Ok, sym, refl, ap, ◌∙◌, arith}
-use Rattle.std.proofs.lemmas.Bool.{and_from, cond-true, cond-false, ne_eqb, lt-ltb, le-ltb, not_from_false, not_from_true}
+use Rattle.std.proofs.lemmas.Bool.{and_from, cond-true, cond-false, ne_eqb, lt-ltb, le-ltb, not_from_false, not_from_true, false_from_ne_true}
 use Rattle.std.proofs.lemmas.Slice.Eq.{bytes_eq-Decides}
 use Rattle.std.specs.Str.{bytes_eq}
 use Rattle.qbf.specs.declared.Quantifier.{Quantifier}
@@ -37,19 +37,15 @@ room false d h = refl
 
 -- the word 0 and a literal are no letters
 plain : (bs : List ℕ) (q : Quantifier) → (bs ≡ letter q → ⊥) → bytes_eq bs (letter q) ≡ false
-plain bs q no-letter = on (bytes_eq bs (letter q)) refl
-  where
-    on : (t : Bool) → bytes_eq bs (letter q) ≡ t → bytes_eq bs (letter q) ≡ false
-    on true e = absurd (no-letter ((bytes_eq-Decides bs (letter q)).0 e))
-    on false e = e
+plain bs q no-letter = false_from_ne_true _ (λ e. no-letter ((bytes_eq-Decides bs (letter q)).0 e))
 
 zero_plain : (bs : List ℕ) (q : Quantifier) → bs ≡ zero_word → bs ≡ letter q → ⊥
 zero_plain bs Universal e f = let z : ◌≡◌ {A = ℕ} 48 97 = cc in omega arith
 zero_plain bs Existential e f = let z : ◌≡◌ {A = ℕ} 48 101 = cc in omega arith
 
 literal_plain : (v : ℕ) (bs : List ℕ) (l : Literal) (q : Quantifier) → read_literal v bs ≡ Ok (Some l) → bs ≡ letter q → ⊥
-literal_plain v bs l Universal e f = let z : ◌≡◌ {A = ℕ} 0 1 = (let g = sym (ap (read_literal v) f) ∙ e in cc) in omega arith
-literal_plain v bs l Existential e f = let z : ◌≡◌ {A = ℕ} 0 1 = (let g = sym (ap (read_literal v) f) ∙ e in cc) in omega arith
+literal_plain v bs l Universal e f = let g = sym (ap (read_literal v) f) ∙ e in cc
+literal_plain v bs l Existential e f = let g = sym (ap (read_literal v) f) ∙ e in cc
 
 zero_number : (v : ℕ) (bs : List ℕ) → bs ≡ zero_word → read_number v bs ≡ Ok 0
 zero_number v bs e = ap (read_number v) e ∙ cond-false _ _ _ (le-ltb v 0 (omega arith))

@@ -50,7 +50,7 @@ finish_broken p d text e h = on_end (rests p && ended text) refl
 
     on_count : (t : Bool) → ltb d.finished d.declared ≡ t → (rests p && ended text) ≡ true → (breaks_at_end e.rule p d text ≡ true) × (e.at ≡ length text)
     on_count true t k = told ClauseCount t (cond-true _ _ _ k ∙ cond-true _ _ _ t)
-    on_count false t k = let f = sym (cond-true _ _ _ k ∙ cond-false _ _ _ t) ∙ h in let z : ◌≡◌ {A = ℕ} 0 1 = cc in absurd (omega arith)
+    on_count false t k = let f = sym (cond-true _ _ _ k ∙ cond-false _ _ _ t) ∙ h in cc
 
     on_end : (t : Bool) → (rests p && ended text) ≡ t → (breaks_at_end e.rule p d text ≡ true) × (e.at ≡ length text)
     on_end true t = on_count (ltb d.finished d.declared) refl t

@@ -1,7 +1,7 @@
 -- Which clauses are stored.
 use Rattle.std.proofs.Common.{◌≡◌, ℕ, Bool, true, false, ◌⊎◌, List, [], ◌∷◌, ◌++◌, map, sym, refl, ap, ◌∙◌, subst, inl, inr, ⊎_elim, append_assoc, append-nil}
 use Rattle.std.proofs.ByRecursion.{All-push}
-use Rattle.std.proofs.lemmas.Bool.{both_ways, false≢true, cond-true, cond-false, or_cases, or_parts}
+use Rattle.std.proofs.lemmas.Bool.{both_ways, false≢true, cond-true, cond-false, or_cases, or_parts, false_from_ne_true}
 use Rattle.std.specs.List.{AllByRecursion}
 use Rattle.qbf.specs.Lists.{In}
 use Rattle.qbf.proofs.Lists.{in_left, in_right}
@@ -51,13 +51,8 @@ unlike_more (d ∷ cs) c h n =
 
 -- taking each literal once brings in no second sign
 one_sign_once : (c : List ℕ) → both_signs c ≡ false → both_signs (once c) ≡ false
-one_sign_once c b = on (both_signs (once c)) refl
-  where
-    on : (t : Bool) → both_signs (once c) ≡ t → both_signs (once c) ≡ false
-    on true t =
-        let k = (signs (once c)).0 t in
-        absurd (both_ways (both_signs c) b ((signs c).1 (k.0, once_out k.0 c k.1, once_out _ c k.2)))
-    on false t = t
+one_sign_once c b =
+    false_from_ne_true _ (λ t. let k = (signs (once c)).0 t in both_ways (both_signs c) b ((signs c).1 (k.0, once_out k.0 c k.1, once_out _ c k.2)))
 
 record Sound (stored : List (List ℕ)) : Type 0 where
   one_sign : AllByRecursion (λ c. both_signs c ≡ false) stored

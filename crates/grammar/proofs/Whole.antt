@@ -1,5 +1,5 @@
 -- The theorems on whole texts.
-use Rattle.std.proofs.Common.{◌≡◌, ℕ, ◌⊎◌, List, Ok, Err, refl, ap, inl, inr, arith}
+use Rattle.std.proofs.Common.{◌≡◌, ℕ, ◌⊎◌, List, Ok, Err, refl, ap, inl, inr}
 use Rattle.formula.specs.Views.{Reading}
 use Rattle.grammar.specs.declared.fault.ReadFault.{ReadFault}
 use Rattle.grammar.specs.declared.fault.Rule.{Rule}
@@ -32,7 +32,6 @@ texts_stand_lem text = record {
   not_both = λ f r i p q.
       let a = format_ok text f p in
       let b = refused_err text r i q in
-      let z : ◌≡◌ {A = ℕ} 0 1 = cc in
-      omega arith;
+      cc;
   either = either text (read_all text) refl;
 }

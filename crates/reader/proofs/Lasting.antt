@@ -1,6 +1,7 @@
 -- What holds of a draft lasts from word to word.
 use Rattle.std.proofs.Common.{◌≡◌, ℕ, ◌+◌, ◌<◌, ◌≤◌, Bool, true, false, not, ◌&&◌, eqb, ltb, List, [], ◌∷◌, ◌++◌, length, is_some, Some, None, Ok, Err, Option, Result, sym, refl, ap, subst, ⊎_elim, arith}
-use Rattle.std.specs.List.{AllByRecursion}
+use Rattle.std.specs.List.{AllByRecursion, sum_by}
+use Rattle.std.proofs.lemmas.List.Sums.{sum_by_push}
 use Rattle.std.specs.Str.{bytes_eq}
 use Rattle.std.proofs.ByRecursion.{All-push}
 use Rattle.std.proofs.lemmas.List.{length_push, map_push}
@@ -27,7 +28,7 @@ use Rattle.grammar.specs.Stored.{repeated, store}
 use Rattle.grammar.specs.Places.{Draft, empty, with_binding, with_clause}
 use Rattle.grammar.specs.Steps.{Next, on_variables, on_count, on_variable, on_literal, on_clause_word, clause_word, stepped, after, read_from}
 use Rattle.reader.specs.Views.{draft_of}
-use Rattle.reader.specs.Sound.{total, kept, Clean, Fine, Sound}
+use Rattle.reader.specs.Sound.{kept, Clean, Fine, Sound}
 use Rattle.reader.proofs.Bound.{InRange, prefix_few}
 
 -- after a word that stands right, what must last does so, and at most one literal more is kept
@@ -88,22 +89,18 @@ literal_lasts full d l (Some p) e f c =
     ((record { variables = f.variables; declared = f.declared; few = f.few; bound = f.bound; once = f.once; begun = All-push (λ c. c < 512) d.begun k f.begun (small_code l.negative p (omega arith)); stored = f.stored }, c fits), omega arith))
 literal_lasts full d l None e f c = tt
 
-total_push : (cs : List (List ℕ)) (c : List ℕ) → total (cs ++ c ∷ []) ≡ total cs + length c
-total_push [] c = omega arith
-total_push (d ∷ cs) c = let ih = total_push cs c in omega arith
-
 -- a clause more, stored or not
 record Grown (cs : List (List ℕ)) (c : List ℕ) (ds : List (List ℕ)) : Type 0 where
   clean : AllByRecursion Clean ds
   few : length ds ≤ length cs + 1
-  room : total ds ≤ total cs + length c
+  room : sum_by length ds ≤ sum_by length cs + length c
 
 store_grows : (cs : List (List ℕ)) (c : List ℕ) → AllByRecursion Clean cs → AllByRecursion (λ k. k < 512) c → Grown cs c (store cs c)
 store_grows cs c a s =
     let same : Grown cs c cs = record { clean = a; few = omega arith; room = omega arith } in
     cond_both (both_signs c) _ _ (Grown cs c) (λ _. same) (λ _.
     cond_both (repeated (once c) cs) _ _ (Grown cs c) (λ _. same) (λ _.
-    let t = total_push cs (once c) in
+    let t = sum_by_push length cs (once c) in
     let l = once_length c in
     let n = length_push cs (once c) in
     record { clean = All-push Clean cs (once c) a (once_all (λ k. k < 512) c s, once_distinct c); few = omega arith; room = omega arith }))
@@ -122,7 +119,7 @@ open_clause : (first : Bool) (d : Draft) → (first ≡ false → d.finished < d
 open_clause first d c e = ⊎_elim c (λ h. ltb-true d.finished d.declared (not-false _ h)) (and_cases first _ e)
 
 begins_clause : true ≡ false → (d : Draft) → d.finished < d.declared
-begins_clause e d = let z : ◌≡◌ {A = ℕ} 0 1 = cc in absurd (omega arith)
+begins_clause e d = cc
 
 words_last : (first : Bool) (d : Draft) (w : Token) → Fine d → (first ≡ false → d.finished < d.declared) → Lasts d (clause_word first d w)
 words_last first d w f c = clause_word_lasts _ d (read_literal d.variables w.bytes) f (open_clause first d c)

@@ -1,19 +1,14 @@
 -- What holds of a draft at each word, so that the arrays suffice.
-use Rattle.std.specs.Prelude.{ℕ, ◌+◌, ◌<◌, ◌≤◌, List, [], ◌∷◌, length}
-use Rattle.std.specs.List.{AllByRecursion}
+use Rattle.std.specs.Prelude.{ℕ, ◌+◌, ◌<◌, ◌≤◌, List, length}
+use Rattle.std.specs.List.{AllByRecursion, sum_by}
 use Rattle.qbf.specs.Lists.{Distinct}
 use Rattle.formula.specs.Positions.{variables_of}
 use Rattle.grammar.specs.declared.place.Place.{Place}
 use Rattle.grammar.specs.Places.{Draft, Counted}
 
--- how many literals the clauses have in all
-abbrev pub total : List (List ℕ) → ℕ
-total [] = 0
-total (c ∷ cs) = length c + total cs
-
--- how many literals are kept, with those of the clause that is begun
+-- how many literals the stored clauses have in all, with those of the clause that is begun
 abbrev pub kept : Draft → ℕ
-kept d = total d.stored + length d.begun
+kept d = sum_by length d.stored + length d.begun
 
 -- a clause as it is stored: codes below 512, none twice
 abbrev pub Clean : List ℕ → Type 0
