@@ -3,7 +3,7 @@ use Rattle.std.proofs.Common.{◌≡◌, ℕ, zero, suc, ◌+◌, ◌<◌, List,
 use Rattle.qbf.specs.declared.Quantifier.{Quantifier}
 use Rattle.qbf.specs.Numbering.{nth, stands}
 use Rattle.table.specs.declared.table.Table.{Table}
-use Rattle.table.specs.Tables.{Number, clauses}
+use Rattle.table.specs.Tables.{size_of, Number, clauses}
 use Rattle.table.proofs.Tables.{ends_stand}
 use Rattle.reduction.specs.Numbered.{sets_from, sets_of, Ready, Kept}
 use Rattle.reduction.proofs.Numbers.{numbers_stand_lem}
@@ -23,7 +23,7 @@ unfolding sets_of
 stands_inside t zero s e = (omega arith, let f = (ends_stand t).0 in cc)
 stands_inside t (suc zero) s e = (omega arith, let f = (ends_stand t).1 in cc)
 stands_inside t (suc (suc i)) s e =
-    let ih = nth_inside t 2 t.count i s e in
+    let ih = nth_inside t 2 (size_of t) i s e in
     let a : 2 + i ≡ suc (suc i) = omega arith in
     (omega (arith, ih.0), rw (← a) ih.1)
 

@@ -3,7 +3,7 @@ use Rattle.std.proofs.Common.{◌≡◌, ℕ, List, [], ◌∷◌, ◌++◌, sym
 use Rattle.qbf.specs.Lists.{In}
 use Rattle.qbf.specs.Nodes.{Crowded}
 use Rattle.table.specs.declared.table.Table.{Table}
-use Rattle.table.specs.Tables.{Stopped}
+use Rattle.table.specs.Tables.{size_of, Stopped}
 use Rattle.table.proofs.Crowding.{full_crowds, weighed_none, weighed_adds}
 
 in_hand : (s : List (List ℕ)) (xs ys : List (List (List ℕ))) → In s (xs ++ (s ∷ ys))
@@ -16,7 +16,7 @@ in_longer r s [] ys (inr i) = absurd i
 in_longer r s (x ∷ xs) ys (inl e) = inl e
 in_longer r s (x ∷ xs) ys (inr i) = inr (in_longer r s xs ys i)
 
-pub crowded : (t : Table) (sets : List (List (List ℕ))) (u : Table) → t.count ≡ 0 → Stopped t sets u → Crowded 4096 sets
+pub crowded : (t : Table) (sets : List (List (List ℕ))) (u : Table) → size_of t ≡ 0 → Stopped t sets u → Crowded 4096 sets
 crowded t sets u none s =
     let back = sym s.order in
     let wide : (r : List (List ℕ)) → In r (s.before ++ (s.hand ∷ [])) → In r sets = λ r i. subst (In r) back (in_longer r s.hand s.before s.after i) in

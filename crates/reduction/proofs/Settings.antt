@@ -11,7 +11,7 @@ use Rattle.sets.proofs.Words.{all_in}
 use Rattle.sets.proofs.Lengths.{few_made}
 use Rattle.table.specs.declared.table.Full.{Full}
 use Rattle.table.specs.declared.table.Table.{Table}
-use Rattle.table.specs.Tables.{clauses, Is, Held, Adds, Made, Stopped, MakesAll}
+use Rattle.table.specs.Tables.{size_of, clauses, Is, Held, Adds, Made, Stopped, MakesAll}
 use Rattle.table.specs.Laws.{Reached, reached_itself, reached_with, reached_without}
 use Rattle.table.proofs.Tables.{nodes_reached}
 use Rattle.theory.proofs.Stands.{within_assigned}
@@ -24,9 +24,9 @@ adds_kept t sets u g n h = (omega (arith, g.larger), g.keeps n h)
 
 gains : (t : Table) (sets : List (List (List ℕ))) (u : Table) → Adds t sets u → Gains (sets_of t) sets (sets_of u)
 gains t sets u g = record {
-  added = sets_from u (t.count + 2) (u.count - t.count);
+  added = sets_from u (size_of t + 2) (size_of u - size_of t);
   joined = grown_sets t u g.larger g.keeps;
-  nodes = each_from u (Among sets) (t.count + 2) (u.count - t.count) (λ n l i. g.gains n l (omega (arith, g.larger)));
+  nodes = each_from u (Among sets) (size_of t + 2) (size_of u - size_of t) (λ n l i. g.gains n l (omega (arith, g.larger)));
 }
 
 reached_two : {t : Table} {m n : ℕ} → Reached t m n → 2 ≤ m

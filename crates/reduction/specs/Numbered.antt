@@ -7,7 +7,7 @@ use Rattle.formula.specs.declared.prefix.Binding.{Binding}
 use Rattle.formula.specs.declared.prefix.Prefix.{Prefix}
 use Rattle.formula.specs.Views.{bindings_of}
 use Rattle.table.specs.declared.table.Table.{Table}
-use Rattle.table.specs.Tables.{Number, clauses}
+use Rattle.table.specs.Tables.{size_of, Number, clauses}
 
 -- the quantifiers of bound variables, outermost first
 abbrev pub quantified : List Binding → List Quantifier
@@ -24,7 +24,7 @@ sets_from t n (suc k) = clauses t n ∷ sets_from t (suc n) k
 
 -- the sets that the numbers 2, 3, .. of the table stand for
 unfoldable pub sets_of : Table → Numbering
-sets_of t = sets_from t 2 t.count
+sets_of t = sets_from t 2 (size_of t)
 
 -- n is the number of a set over the prefix, of no more clauses than a text has
 pub record Ready (prefix : List Quantifier) (t : Table) (n : ℕ) : Type 0 where

@@ -12,7 +12,7 @@ use Rattle.formula.specs.declared.prefix.Binding.{Binding}
 use Rattle.formula.specs.declared.prefix.Prefix.{Prefix}
 use Rattle.formula.specs.Views.{bindings_of}
 use Rattle.table.specs.declared.table.Table.{Table}
-use Rattle.table.specs.Tables.{Number, clauses}
+use Rattle.table.specs.Tables.{size_of, Number, clauses}
 use Rattle.reduction.specs.Numbered.{sets_from, sets_of, quantifiers_of, Ready, Kept}
 use Rattle.ledger.specs.Answers.{answer}
 use Rattle.ledger.specs.Ledger.{decide, LoadedFormula, quantifiers, most_allowed}
@@ -60,7 +60,7 @@ no_sets : (t : Table) → sets_from t 2 zero ≡ []
 unfolding sets_from
 no_sets t = refl
 
-pub none_made : (t : Table) → t.count ≡ 0 → sets_of t ≡ []
+pub none_made : (t : Table) → size_of t ≡ 0 → sets_of t ≡ []
 unfolding sets_of
 none_made t e = ap (sets_from t 2) e ∙ no_sets t
 
