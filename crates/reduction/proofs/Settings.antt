@@ -13,7 +13,7 @@ use Rattle.table.specs.declared.table.Full.{Full}
 use Rattle.table.specs.declared.table.Table.{Table}
 use Rattle.table.specs.Tables.{size_of, clauses, Is, Held, Adds, Made, Stopped, MakesAll}
 use Rattle.table.specs.Laws.{Reached, reached_itself, reached_with, reached_without}
-use Rattle.table.proofs.Tables.{nodes_reached}
+use Rattle.table.proofs.Tables.{sizes_fit, nodes_reached}
 use Rattle.theory.proofs.Stands.{within_assigned}
 use Rattle.reduction.specs.Numbered.{sets_from, sets_of, Ready, Kept}
 use Rattle.reduction.specs.Outcomes.{SetTrue, StaysReady}
@@ -46,7 +46,7 @@ made_makes t sets u m = record {
   gains = gains t sets u m.grows;
   whole = whole u sets m.held;
   apart = distinct_sets u;
-  within = let l = length_sets u in let f = u.fits in omega arith;
+  within = let l = length_sets u in let f = sizes_fit u in omega arith;
 }
 
 pub stopped_stops : (t : Table) (sets : List (List (List ℕ))) (u : Table) → Stopped t sets u → Stops (sets_of t) sets (sets_of u)
