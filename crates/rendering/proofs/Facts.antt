@@ -1,10 +1,10 @@
 -- What holds of a formula that was read, so that it can be stored and written.
-use Rattle.std.proofs.Common.{ℕ, ◌*◌, ◌<◌, ◌≤◌, List, [], length, sym, ap, subst, arith}
+use Rattle.std.proofs.Common.{ℕ, ◌*◌, ◌<◌, ◌≤◌, List, [], length, ap, arith}
 use Rattle.std.specs.List.{AllByRecursion}
-use Rattle.std.proofs.ByRecursion.{All-weaker}
 use Rattle.std.proofs.lemmas.Bool.Decides.{nat_tests}
 use Rattle.arrays.proofs.Fits.{items_fit}
 use Rattle.formula.specs.declared.prefix.Binding.{Binding}
+use Rattle.formula.specs.declared.prefix.Prefix.{Prefix}
 use Rattle.formula.specs.declared.Formula.{Formula}
 use Rattle.formula.specs.Views.{Reading, reading, bindings_of, clauses_of}
 use Rattle.formula.proofs.Positions.{found_within}
@@ -12,7 +12,7 @@ use Rattle.grammar.specs.Grammar.{Format}
 use Rattle.sets.specs.Formed.{formed}
 use Rattle.rendering.proofs.Codes.{Known}
 use Rattle.rendering.proofs.Lengths.{problem_cost, clauses_cost}
-use Rattle.rendering.proofs.Stores.{codes_stored, codes_formed, length_stored}
+use Rattle.rendering.proofs.Stores.{codes_weaker, codes_stored, codes_formed, length_stored}
 
 -- the code of a variable that the prefix binds
 known_within : (v : ℕ) (prefix : List Binding) (k : ℕ) → Known v prefix k → k < 2 * length prefix
@@ -24,14 +24,14 @@ known_within v prefix k known =
 
 module _ {text : List ℕ} {f : Reading} (h : Format text f) where
   within : AllByRecursion (AllByRecursion (λ k. k < 2 * length f.prefix)) h.written_clauses
-  within = All-weaker (AllByRecursion (Known f.variables f.prefix)) (AllByRecursion (λ (k : ℕ). k < 2 * length f.prefix)) (All-weaker (Known f.variables f.prefix) (λ (k : ℕ). k < 2 * length f.prefix) (known_within f.variables f.prefix)) h.written_clauses (clauses_cost h.clauses_are).1
+  within = codes_weaker _ _ (known_within f.variables f.prefix) h.written_clauses (clauses_cost h.clauses_are).1
 
   -- all codes are those of the prefix
   pub stored_within : AllByRecursion (AllByRecursion (λ k. k < 2 * length f.prefix)) f.clauses
-  stored_within = subst (AllByRecursion (AllByRecursion (λ (k : ℕ). k < 2 * length f.prefix))) (sym h.stored) (codes_stored (λ (k : ℕ). k < 2 * length f.prefix) h.written_clauses within)
+  stored_within = rw h.stored (codes_stored _ h.written_clauses within)
 
   pub set_within : AllByRecursion (AllByRecursion (λ k. k < 2 * length f.prefix)) (formed [] f.clauses)
-  set_within = subst (λ (s : List (List ℕ)). AllByRecursion (AllByRecursion (λ k. k < 2 * length f.prefix)) (formed [] s)) (sym h.stored) (codes_formed (λ (k : ℕ). k < 2 * length f.prefix) h.written_clauses within)
+  set_within = rw h.stored (codes_formed _ h.written_clauses within)
 
   -- and there are no more clauses than were declared
   pub set_few : length (formed [] f.clauses) ≤ 2048
@@ -42,8 +42,9 @@ module _ {text : List ℕ} {f : Reading} (h : Format text f) where
       let n = h.counted in
       omega arith
 
--- a formula that was read: all codes are below 512
+-- a prefix has at most 256 variables, so that all codes of theirs are below 512
+pub prefix_coded : (p : Prefix) (s : List (List ℕ)) → AllByRecursion (AllByRecursion (λ k. k < 2 * length (bindings_of p))) s → AllByRecursion (AllByRecursion (λ k. k < 512)) s
+prefix_coded p = let l = items_fit p.bindings in codes_weaker _ _ (λ k b. omega arith)
+
 pub stored_coded : {text : List ℕ} (f : Formula) → Format text (reading f) → AllByRecursion (AllByRecursion (λ k. k < 512)) (clauses_of f.clauses)
-stored_coded f h =
-    let l = items_fit f.prefix.bindings in
-    All-weaker (AllByRecursion (λ (k : ℕ). k < 2 * length (bindings_of f.prefix))) (AllByRecursion (λ (k : ℕ). k < 512)) (All-weaker (λ (k : ℕ). k < 2 * length (bindings_of f.prefix)) (λ (k : ℕ). k < 512) (λ k b. omega arith)) (clauses_of f.clauses) (stored_within h)
+stored_coded f h = prefix_coded f.prefix (clauses_of f.clauses) (stored_within h)

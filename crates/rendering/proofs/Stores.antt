@@ -102,6 +102,10 @@ length_stored written =
     let c : length (map once written) ≡ length written = simp length-map in
     omega arith
 
+-- what holds of all codes of a set, weaker
+pub codes_weaker : (P Q : ℕ → Type 0) → ((k : ℕ) → P k → Q k) → (s : List (List ℕ)) → AllByRecursion (AllByRecursion P) s → AllByRecursion (AllByRecursion Q) s
+codes_weaker P Q f = All-weaker (AllByRecursion P) (AllByRecursion Q) (All-weaker P Q f)
+
 pub codes_stored : (P : ℕ → Type 0) (written : List (List ℕ)) → AllByRecursion (AllByRecursion P) written → AllByRecursion (AllByRecursion P) (store_all [] written)
 codes_stored P written a =
     all_left (AllByRecursion P) (stored_stands_lem written).in_order (All-map (AllByRecursion P) once written (All-weaker (AllByRecursion P) (λ c. AllByRecursion P (once c)) (once_all P) written a))

@@ -12,6 +12,7 @@ use Rattle.formula.specs.declared.prefix.Binding.{Binding}
 use Rattle.formula.specs.declared.prefix.Prefix.{Prefix}
 use Rattle.formula.specs.Views.{bindings_of}
 use Rattle.rendering.specs.Render.{render, blocks, prefix_lines, literal_of}
+use Rattle.rendering.proofs.Facts.{prefix_coded}
 use Rattle.rendering.proofs.Sums.{total}
 use Rattle.rendering.proofs.Lengths.{length_render, length_problem, length_clauses, literal_cost, clause_cost, front_most}
 use Rattle.table.specs.declared.table.Table.{Table}
@@ -75,8 +76,7 @@ countable t n v p held bound few =
     let s = clauses t n in
     let bs = bindings_of p in
     let l = items_fit p.bindings in
-    let u : AllByRecursion (AllByRecursion (λ k. k < 512)) s = All-weaker (AllByRecursion (λ (k : ℕ). k < 2 * length bs)) (AllByRecursion (λ (k : ℕ). k < 512)) (All-weaker (λ (k : ℕ). k < 2 * length bs) (λ (k : ℕ). k < 512) (λ k h. omega arith)) s bound in
-    let c = clauses_most bs s (sets_formed t n held).0 u in
+    let c = clauses_most bs s (sets_formed t n held).0 (prefix_coded p s bound) in
     let q = prefix_most bs in
     let d = decimal_most v in
     let f = decimal_most (length s) in
