@@ -23,6 +23,7 @@ pub fn normalized(text: &[u8], buffer: &mut [u8]) -> Result<usize, Unwritten>
     let formula = read(text)?;
     let mut table = Table::new();
     let number = store_clauses(&mut table, &formula.clauses)?;
-    let len = write(&table, number, formula.variables, &formula.prefix, buffer)?;
+    let set = table.set(number);
+    let len = write(set, formula.variables, &formula.prefix, buffer)?;
     Ok(len)
 }

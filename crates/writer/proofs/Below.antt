@@ -7,27 +7,33 @@ use Rattle.std.proofs.lemmas.Bool.{cases_eq}
 use Rattle.formula.specs.declared.prefix.Binding.{Binding}
 use Rattle.sets.specs.Sides.{joined}
 use Rattle.sets.proofs.Joined.{length_joined}
-use Rattle.table.specs.declared.node.Node.{Node}
-use Rattle.table.specs.declared.table.Table.{Table}
-use Rattle.table.specs.Tables.{Number, clauses, Opens}
+use Rattle.table.specs.declared.set.Set.{Set}
+use Rattle.table.specs.declared.set.reading.Branches.{Branches}
+use Rattle.table.specs.Sets.{clauses_of, Branched}
 use Rattle.table.proofs.Tables.{ends_stand, has_clause}
 use Rattle.rendering.specs.Render.{clause_line}
 use Rattle.rendering.proofs.Stores.{codes_weaker}
 use Rattle.writer.specs.Below.{Below, lines_below}
 
--- the two sets without nodes
+-- the two sets without a non-empty clause
 
-pub small_length : (t : Table) (n : ℕ) → n < 2 → n ≡ length (clauses t n)
-small_length t n two = elim (cases_eq n 0) [
-  | inl e ↦ rw (e, (ends_stand t).0)
-  | inr ne ↦ (let e : n ≡ 1 = omega arith in rw (e, (ends_stand t).1))
+none_in : (s : Set) → s.number ≡ 0 → clauses_of s ≡ []
+none_in s e = rw e (ends_stand s.table.now).0
+
+one_in : (s : Set) → s.number ≡ 1 → clauses_of s ≡ [] ∷ []
+one_in s e = rw e (ends_stand s.table.now).1
+
+pub small_length : (s : Set) → s.number < 2 → s.number ≡ length (clauses_of s)
+small_length s two = elim (cases_eq s.number 0) [
+  | inl e ↦ rw (none_in s e) e
+  | inr ne ↦ (let e : s.number ≡ 1 = omega arith in rw (one_in s e) e)
 ]
 
-pub no_lines : (t : Table) (n : ℕ) (prefix : List Binding) (path : List ℕ) → n ≡ 0 → [] ≡ lines_below prefix path (clauses t n)
-no_lines t n prefix path e = rw (e, (ends_stand t).0)
+pub no_lines : (s : Set) (n : ℕ) (prefix : List Binding) (path : List ℕ) → s.number < 2 → n ≡ s.number → (n ≡ 1 → ⊥) → [] ≡ lines_below prefix path (clauses_of s)
+no_lines s n prefix path two e other = rw (none_in s (omega arith))
 
-pub one_line : (t : Table) (n : ℕ) (prefix : List Binding) (path codes : List ℕ) → n ≡ 1 → codes ≡ path → clause_line prefix codes ≡ lines_below prefix path (clauses t n)
-one_line t n prefix path codes e same = rw (e, (ends_stand t).1, same) (simp append-nil)
+pub one_line : (s : Set) (n : ℕ) (prefix : List Binding) (path codes : List ℕ) → n ≡ s.number → n ≡ 1 → codes ≡ path → clause_line prefix codes ≡ lines_below prefix path (clauses_of s)
+one_line s n prefix path codes e one same = rw (one_in s (sym e ∙ one), same) (simp append-nil)
 
 -- a set by its sides
 
@@ -46,27 +52,27 @@ popped path longer shorter k e f =
     let l = ap length e ∙ length_push path k in
     f ∙ ap (take (length longer - 1)) e ∙ take_at path (k ∷ []) (length longer - 1) (omega arith)
 
--- the set n of the table t by its node x
-module _ (t : Table) (n : ℕ) (x : Node) (held : Number t n) (o : Opens t n x) where
+-- the set s by its branches
+module _ (s : Set) (x : Branches) (o : Branched s x) where
   abbrev hi : List (List ℕ)
-  hi = clauses t x.with
+  hi = clauses_of x.with
 
   abbrev lo : List (List ℕ)
-  lo = clauses t x.without
+  lo = clauses_of x.without
 
-  pub lengths : length (clauses t n) ≡ length hi + length lo
+  pub lengths : length (clauses_of s) ≡ length hi + length lo
   lengths = rw o.means (length_joined x.code hi lo)
 
-  pub lines_split : (prefix : List Binding) (path longer after : List ℕ) → longer ≡ path ++ x.code ∷ [] → after ≡ path → lines_below prefix path (clauses t n) ≡ lines_below prefix longer hi ++ lines_below prefix after lo
+  pub lines_split : (prefix : List Binding) (path longer after : List ℕ) → longer ≡ path ++ x.code ∷ [] → after ≡ path → lines_below prefix path (clauses_of s) ≡ lines_below prefix longer hi ++ lines_below prefix after lo
   lines_split prefix path longer after e f = rw (e, f, o.means) (lines_joined prefix path x.code hi lo)
 
-  module _ (m : ℕ) (path : List ℕ) (b : Below m path (clauses t n)) where
-    sides : (P : ℕ → Type 0) → AllByRecursion (AllByRecursion P) (clauses t n) → AllByRecursion (AllByRecursion P) hi × AllByRecursion (AllByRecursion P) lo
+  module _ (m : ℕ) (path : List ℕ) (b : Below m path (clauses_of s)) where
+    sides : (P : ℕ → Type 0) → AllByRecursion (AllByRecursion P) (clauses_of s) → AllByRecursion (AllByRecursion P) hi × AllByRecursion (AllByRecursion P) lo
     sides P a = all_sides P x.code hi lo (rw o.means at a)
 
-    here : (P : ℕ → Type 0) → AllByRecursion (AllByRecursion P) (clauses t n) → P x.code
+    here : (P : ℕ → Type 0) → AllByRecursion (AllByRecursion P) (clauses_of s) → P x.code
     here P a =
-        let w = has_clause t x.with (omega (arith, o.with_less)) o.filled in
+        let w = has_clause x.with.table.now x.with.number x.with.held o.filled in
         (rw (o.means, w.2) at a).0.0
 
     pub short : length path < 512

@@ -15,8 +15,8 @@ use Rattle.rendering.specs.Render.{render, blocks, prefix_lines, literal_of}
 use Rattle.rendering.proofs.Facts.{prefix_coded}
 use Rattle.rendering.proofs.Sums.{total}
 use Rattle.rendering.proofs.Lengths.{length_render, length_problem, length_clauses, literal_cost, clause_cost, front_most}
-use Rattle.table.specs.declared.table.Table.{Table}
-use Rattle.table.specs.Tables.{Number, clauses}
+use Rattle.table.specs.declared.set.Set.{Set}
+use Rattle.table.specs.Sets.{clauses_of}
 use Rattle.table.proofs.Tables.{sets_formed}
 
 spelled_most : (k n : ℕ) (acc : List ℕ) → length (digits_onto k 10 false n acc) ≤ k + length acc
@@ -71,12 +71,12 @@ clauses_most prefix (c ∷ s) r u =
     omega arith
 
 -- so every text that is written can be counted
-pub countable : (t : Table) (n v : ℕ) (p : Prefix) → Number t n → AllByRecursion (AllByRecursion (λ k. k < 2 * length (bindings_of p))) (clauses t n) → length (clauses t n) ≤ 2048 → length (render v (bindings_of p) (clauses t n)) < 2 ^ 64
-countable t n v p held bound few =
-    let s = clauses t n in
+pub countable : (set : Set) (v : ℕ) (p : Prefix) → AllByRecursion (AllByRecursion (λ k. k < 2 * length (bindings_of p))) (clauses_of set) → length (clauses_of set) ≤ 2048 → length (render v (bindings_of p) (clauses_of set)) < 2 ^ 64
+countable set v p bound few =
+    let s = clauses_of set in
     let bs = bindings_of p in
     let l = items_fit p.bindings in
-    let c = clauses_most bs s (sets_formed t n held).0 (prefix_coded p s bound) in
+    let c = clauses_most bs s (sets_formed set.table.now set.number set.held).0 (prefix_coded p s bound) in
     let q = prefix_most bs in
     let d = decimal_most v in
     let f = decimal_most (length s) in

@@ -4,7 +4,7 @@ ghost use Rattle.std.specs.List.{AllByRecursion};
 ghost use Rattle.std.proofs.Props.{props};
 ghost use Rattle.formula.specs.Views.{bindings_of};
 ghost use Rattle.rendering.specs.Render.{render};
-ghost use Rattle.table.specs.Tables.{Number, clauses};
+ghost use Rattle.table.specs.Sets.{clauses_of};
 ghost use Rattle.writer.specs.Puts.{Puts};
 ghost use Rattle.writer.specs.Written.{Put, Written, Short};
 
@@ -12,7 +12,7 @@ use crate::clauses::count_clauses;
 use crate::pen::Pen;
 use arrays::FixedList;
 use formula::Prefix;
-use table::Table;
+use table::Set;
 
 // The buffer is too short for the text, which has `needed` bytes.
 #[derive(Clone, Copy, PartialEq, Eq, Debug)]
@@ -23,28 +23,26 @@ pub struct TooShort {
 // What is written: V, a prefix, and the clauses of a set of the table, whose variables the prefix binds.
 #[derive(Clone, Copy)]
 struct Content<'a> {
-    table: &'a Table,
-    number: u16,
+    set: Set<'a>,
     variables: u16,
     prefix: &'a Prefix,
-    ghost held: { Number table.now number },
-    ghost bound: { AllByRecursion (AllByRecursion (λ k. k < 2 * length (bindings_of prefix.now))) (clauses table.now number) } by { Prim.hlevel props },
-    ghost few: { length (clauses table.now number) ≤ 2048 },
+    ghost bound: { AllByRecursion (AllByRecursion (λ k. k < 2 * length (bindings_of prefix.now))) (clauses_of set) } by { Prim.hlevel props },
+    ghost few: { length (clauses_of set) ≤ 2048 },
 }
 
 impl Content<'_> {
     fn put_text(&self, pen: &mut Pen)
-        ensures { Puts pen.old (render self.now.variables (bindings_of self.now.prefix.now) (clauses self.now.table.now self.now.number)) pen.new }
+        ensures { Puts pen.old (render self.now.variables (bindings_of self.now.prefix.now) (clauses_of self.now.set)) pen.new }
     {
         let prefix = self.prefix.bindings();
-        pen.put_problem(self.variables, count_clauses(self.table, self.number));
+        pen.put_problem(self.variables, count_clauses(self.set));
         pen.put_prefix(prefix);
-        pen.put_clauses(self.table, self.number, prefix, &mut FixedList::new(0));
+        pen.put_clauses(self.set, prefix, &mut FixedList::new(0));
     }
 
     // Puts the text over the front of the buffer, as far as the buffer reaches, and tells its whole length.
     fn put(&self, buffer: &mut [u8]) -> usize
-        ensures { Put (render self.now.variables (bindings_of self.now.prefix.now) (clauses self.now.table.now self.now.number)) buffer.old buffer.new result }
+        ensures { Put (render self.now.variables (bindings_of self.now.prefix.now) (clauses_of self.now.set)) buffer.old buffer.new result }
     {
         let mut pen = Pen::new(buffer);
         self.put_text(&mut pen);
@@ -54,22 +52,19 @@ impl Content<'_> {
 
 // Writes the formula of V variables with this prefix and the clauses of a set of the table, and tells the text's length.
 pub fn write(
-    table: &Table,
-    number: u16,
+    set: Set,
     variables: u16,
     prefix: &Prefix,
     buffer: &mut [u8],
 ) -> Result<usize, TooShort>
-    requires held { Number table.now number }
-    requires bound { AllByRecursion (AllByRecursion (λ k. k < 2 * length (bindings_of prefix.now))) (clauses table.now number) }
-    requires few { length (clauses table.now number) ≤ 2048 }
+    requires bound { AllByRecursion (AllByRecursion (λ k. k < 2 * length (bindings_of prefix.now))) (clauses_of set) }
+    requires few { length (clauses_of set) ≤ 2048 }
     ensures { MatchResult result
-        (Written (render variables (bindings_of prefix.now) (clauses table.now number)) buffer.old buffer.new)
-        (λ e. Short (render variables (bindings_of prefix.now) (clauses table.now number)) buffer.old buffer.new e.needed) }
+        (Written (render variables (bindings_of prefix.now) (clauses_of set.entry)) buffer.old buffer.new)
+        (λ e. Short (render variables (bindings_of prefix.now) (clauses_of set.entry)) buffer.old buffer.new e.needed) }
 {
     let content = Content {
-        table,
-        number,
+        set,
         variables,
         prefix,
     };

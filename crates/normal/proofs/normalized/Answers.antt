@@ -1,4 +1,4 @@
-use Rattle.std.proofs.Common.{length, refl}
+use Rattle.std.proofs.Common.{length, refl, ◌∙◌}
 use Rattle.std.proofs.lemmas.Result.{err_from_is_err_and}
 use Rattle.formula.specs.Views.{reading}
 use Rattle.normal.proofs.Lengths.{never_short}
@@ -24,12 +24,8 @@ pub write-requires : goal.write-requires
 write-requires c =
     let f = c.in_ok-formula.formula in
     let format = (c.in_ok-formula.ensures.accepted (reading f)).0 refl in
-    let is = c.in_ok-number.ensures.cases.1 in
-    record {
-      held = is.held;
-      bound = rw is.means (set_within format);
-      few = rw is.means (set_few format);
-    }
+    let means = c.set-set.ensures.clauses ∙ c.in_ok-number.ensures.cases.1.means in
+    record { bound = rw means (set_within format); few = rw means (set_few format) }
 
 pub returns-in_err-len-clause-normal : goal.returns-in_err-len-clause-normal
 returns-in_err-len-clause-normal c =
@@ -38,7 +34,7 @@ returns-in_err-len-clause-normal c =
     rw (p.1, p.2) (
       reading f,
       (c.in_ok-formula.ensures.accepted (reading f)).0 refl,
-      rw (← c.in_ok-number.ensures.cases.1.means) c.in_err-len.ensures,
+      rw (← (c.set-set.ensures.clauses ∙ c.in_ok-number.ensures.cases.1.means)) c.in_err-len.ensures,
     )
 
 pub returns-clause-normal : goal.returns-clause-normal
@@ -46,10 +42,10 @@ returns-clause-normal c =
     let f = c.in_ok-formula.formula in (
       reading f,
       (c.in_ok-formula.ensures.accepted (reading f)).0 refl,
-      rw (← c.in_ok-number.ensures.cases.1.means) c.in_ok-len.ensures,
+      rw (← (c.set-set.ensures.clauses ∙ c.in_ok-number.ensures.cases.1.means)) c.in_ok-len.ensures,
     )
 
 pub returns-in_err-len-clause-enough : goal.returns-in_err-len-clause-enough
 returns-in_err-len-clause-enough c enough n e =
     let f = c.in_ok-formula.formula in
-    never_short (reading f) ((c.in_ok-formula.ensures.accepted (reading f)).0 refl) (length c.args.buffer.now) (rw (← c.in_ok-number.ensures.cases.1.means) c.in_err-len.ensures.too_short) enough
+    never_short (reading f) ((c.in_ok-formula.ensures.accepted (reading f)).0 refl) (length c.args.buffer.now) (rw (← (c.set-set.ensures.clauses ∙ c.in_ok-number.ensures.cases.1.means)) c.in_err-len.ensures.too_short) enough

@@ -120,8 +120,7 @@ impl Core {
             return unreachable();
         };
         let len = write(
-            &self.table,
-            formula.number,
+            self.table.set(formula.number),
             formula.variables,
             &prefix,
             buffer,
