@@ -58,16 +58,15 @@ impl Index {
     }
 
     // The first place from the node's home on, and then from the start, whose record is free or has the node's number.
-    pub fn seek(&self, node: Node, nodes: &[Node]) -> usize
+    pub fn seek(&self, probe: &Probe) -> usize
         requires { used self.now.at < 8192 }
-        ensures { Sought self.now.at nodes.now node result }
+        ensures { Sought self.now.at probe.now.nodes.now probe.now.node result }
     {
-        let start = Index::home(&node);
-        let probe = Probe { node, nodes };
-        if let Some(ahead) = find(&self.at[start..], &probe) {
+        let start = Index::home(&probe.node);
+        if let Some(ahead) = find(&self.at[start..], probe) {
             return start + ahead;
         }
-        find(&self.at[..start], &probe).unwrap()
+        find(&self.at[..start], probe).unwrap()
     }
 
     pub fn store(&mut self, place: usize, slot: Slot)

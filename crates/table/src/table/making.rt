@@ -4,7 +4,7 @@ ghost use Rattle.sets.specs.Sides.{Over, joined};
 ghost use Rattle.table.specs.Probing.{Sought};
 ghost use Rattle.table.specs.Tables.{nodes_of, size_of, Number, clauses, Makes, Opens};
 
-use crate::index::{Index, Slot};
+use crate::index::{Index, Probe, Slot};
 use crate::node::Node;
 use crate::table::{Full, Table};
 use arrays::FixedList;
@@ -54,11 +54,15 @@ impl Table {
         self.nodes.as_slice()[usize::from(number) - 2]
     }
 
-    // The place of the node's record in the index, or of the free one where it would stand.
+    // The place of the node's record in the index, or of the free one where it would stand. A function of its own, since a
+    // call that lends two fields of a `&mut self` has to prove all the table's rules anew.
     fn place(&self, node: Node) -> usize
         ensures { Sought self.now.index.at (nodes_of self.now) node result }
     {
-        self.index.seek(node, self.nodes.as_slice())
+        self.index.seek(&Probe {
+            node,
+            nodes: self.nodes.as_slice(),
+        })
     }
 
     // The set with these two sides, and the code in front of the clauses of the first.
