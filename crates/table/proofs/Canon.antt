@@ -5,9 +5,9 @@ use Rattle.qbf.specs.Clauses.{Canonical}
 use Rattle.sets.specs.Sides.{Over, joined}
 use Rattle.sets.proofs.Joined.{over_joined, canonical_joined, same_sides}
 use Rattle.table.specs.declared.node.Node.{Node}
-use Rattle.table.specs.Places.{node_at, set_of, Above}
+use Rattle.table.specs.Places.{node_at, set_of, Above, Sound}
 use Rattle.table.proofs.Families.{family_zero, family_one, family_node}
-use Rattle.table.proofs.Stores.{Sound, fresh}
+use Rattle.table.proofs.Stores.{fresh}
 
 pub cases_number : (n count : ℕ) → n < count + 2 → (n ≡ 0) ⊎ ((n ≡ 1) ⊎ ((p : ℕ) × (p < count) × (n ≡ p + 2)))
 cases_number n count h =

@@ -10,7 +10,7 @@ use Rattle.table.specs.Tables.{nodes_of, size_of, Number, clauses, Is, Held, Add
 use Rattle.table.proofs.Families.{family_extends}
 use Rattle.table.proofs.Stores.{Joins, fresh}
 use Rattle.table.proofs.Canon.{absent}
-use Rattle.table.proofs.Tables.{sound, own_node, has_clause, nodes_held}
+use Rattle.table.proofs.Tables.{own_node, has_clause, nodes_held}
 
 pub adds_same : (t : Table) (sets : List (List (List ℕ))) → Adds t sets t
 adds_same t sets = record { larger = omega arith; keeps = λ n h. refl; gains = λ n l h. absurd (let no : ⊥ = omega arith in no) }
@@ -73,7 +73,7 @@ module _ (t : Table) (code hi lo : ℕ) where
         full = full;
         part = s;
         of_it = subst (λ z. NodeOf (joined code z (clauses t lo)) (joined code z (clauses t lo))) (sym w.2) (own code w.0 w.1 (clauses t lo));
-        absent = λ h. absent _ (sound t) code hi lo pos hi_held lo_held lower lacks h.0 h.1.held h.1.means;
+        absent = λ h. absent _ t.sound code hi lo pos hi_held lo_held lower lacks h.0 h.1.held h.1.means;
       }
     where
       own : (k : ℕ) (c : List ℕ) (cs s : List (List ℕ)) → NodeOf (joined k (c ∷ cs) s) (joined k (c ∷ cs) s)

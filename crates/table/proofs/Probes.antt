@@ -6,7 +6,7 @@ use Rattle.std.proofs.lemmas.Bool.{cases_lt, cases_eq}
 use Rattle.table.specs.declared.node.Node.{Node}
 use Rattle.table.specs.declared.index.Slot.{Slot}
 use Rattle.table.specs.Places.{node_at}
-use Rattle.table.specs.Probing.{nothing, slot_at, home, steps, Numbers, Ends, Sought, used, Idle, Strays, Findable}
+use Rattle.table.specs.Probing.{nothing, slot_at, home, steps, Numbers, Ends, Sought, used, Idle, Strays, Findable, Indexed}
 use Rattle.table.proofs.Stores.{longer, old_at, new_at, each}
 
 -- records in use
@@ -95,11 +95,6 @@ module _ (rs : List Slot) (xs : List Node) (x : Node) (start : ℕ) (long : leng
         | inr behind ↦ passed_ahead (length ahead) none_ahead q (omega arith) behind (omega (arith, length_ahead)) (inl free)
       ]) in
       absurd (omega arith)
-
--- what a table's ghost fields say of its index
-pub record Indexed (xs : List Node) (rs : List Slot) : Type 0 where
-  pub findable : Findable xs rs
-  pub spare : used rs ≤ length xs
 
 -- the search for a node ends at its record, if it is in the table
 

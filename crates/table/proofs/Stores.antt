@@ -4,16 +4,8 @@ use Rattle.std.proofs.lemmas.List.{get_or_append_left, get_or_push}
 use Rattle.std.proofs.lemmas.Bool.{cases_lt}
 use Rattle.table.specs.declared.node.Node.{Node}
 use Rattle.sets.specs.Sides.{joined}
-use Rattle.table.specs.Places.{nowhere, node_at, set_of, Above, Filled, Climbing, Falling, Apart, Coded}
+use Rattle.table.specs.Places.{nowhere, node_at, set_of, Above, Filled, Climbing, Falling, Apart, Coded, Sound}
 use Rattle.table.proofs.Families.{Extends, family_zero, family_extends, family_node}
-
--- what a table's ghost fields say of its nodes
-pub record Sound (xs : List Node) : Type 0 where
-  pub filled : Filled xs
-  pub climbing : Climbing xs
-  pub falling : Falling xs
-  pub apart : Apart xs
-  pub coded : Coded xs
 
 -- n is the number, among the nodes ys, of the set with these sides among xs; at most its node is new
 pub record Joins (xs : List Node) (code hi lo : ℕ) (ys : List Node) (n : ℕ) : Type 0 where

@@ -12,15 +12,7 @@ use Rattle.table.specs.Places.{node_at}
 use Rattle.table.specs.Tables.{nodes_of, size_of, Number, clauses, Held, Opens}
 use Rattle.table.specs.Laws.{EndsStand, SizesFit, SetsFormed, SetsCoded, NumbersApart, NodesReached, Reached, reached_itself, reached_with, reached_without}
 use Rattle.table.proofs.Families.{family_zero, family_one}
-use Rattle.table.proofs.Stores.{Sound}
-use Rattle.table.proofs.Probes.{Indexed}
 use Rattle.table.proofs.Canon.{cases_number, at_node, over, formed, filled, leads, canonical}
-
-pub sound : (t : Table) → Sound (nodes_of t)
-sound t = record { filled = t.filled; climbing = t.climbing; falling = t.falling; apart = t.apart; coded = t.coded }
-
-pub indexed : (t : Table) → Indexed (nodes_of t) t.index.at
-indexed t = record { findable = t.findable; spare = t.spare }
 
 abbrev pub top : Table → ℕ → Node
 top t n = node_at (nodes_of t) (n - 2)
@@ -41,27 +33,27 @@ small_over t n k two = elim (cases_eq n 0) [
 
 pub sets_formed : SetsFormed
 unfolding clauses
-sets_formed t n h = formed _ (sound t) n h
+sets_formed t n h = formed _ t.sound n h
 
 pub numbers_apart : NumbersApart
 unfolding clauses
-numbers_apart t m n h i e = canonical _ (sound t) m n h i e
+numbers_apart t m n h i e = canonical _ t.sound m n h i e
 
 -- a set with a node, by its node
 pub opens : (t : Table) (n : ℕ) → Number t n → 2 ≤ n → Opens t n (top t n)
 unfolding clauses
 opens t n held two =
     let at : n - 2 < size_of t = omega arith in
-    let f = t.falling (n - 2) at in
-    let r = t.climbing (n - 2) at in
+    let f = t.sound.falling (n - 2) at in
+    let r = t.sound.climbing (n - 2) at in
     record {
-      means = at_node _ (sound t) n (n - 2) at (omega arith);
-      with_over = over _ (sound t) (top t n).with (top t n).code (omega (arith, at)) r.0;
-      without_over = over _ (sound t) (top t n).without (top t n).code (omega (arith, at)) r.1;
-      filled = t.filled (n - 2) at;
+      means = at_node _ t.sound n (n - 2) at (omega arith);
+      with_over = over _ t.sound (top t n).with (top t n).code (omega (arith, at)) r.0;
+      without_over = over _ t.sound (top t n).without (top t n).code (omega (arith, at)) r.1;
+      filled = t.sound.filled (n - 2) at;
       with_less = omega arith;
       without_less = omega arith;
-      coded = t.coded (n - 2) at;
+      coded = t.sound.coded (n - 2) at;
     }
 
 coded_joined : (k : ℕ) (hi lo : List (List ℕ)) → k < 512 → AllByRecursion (AllByRecursion (λ y. y < 512)) hi → AllByRecursion (AllByRecursion (λ y. y < 512)) lo → AllByRecursion (AllByRecursion (λ y. y < 512)) (joined k hi lo)
@@ -89,13 +81,13 @@ sets_coded t n h = coded_by t (suc n) n (omega arith) h
 -- a number from 1 on stands for a set with a clause
 pub has_clause : (t : Table) (n : ℕ) → Number t n → 0 < n → (c : List ℕ) × (cs : List (List ℕ)) × (clauses t n ≡ c ∷ cs)
 unfolding clauses
-has_clause t n h pos = filled _ (sound t) n h pos
+has_clause t n h pos = filled _ t.sound n h pos
 
 -- a set with a node begins with the node's code, and is a node of itself
 pub own_node : (t : Table) (n : ℕ) → Number t n → 2 ≤ n → NodeOf (clauses t n) (clauses t n)
 unfolding clauses
 own_node t n h two =
-    let l = leads _ (sound t) n (n - 2) (omega arith) (omega arith) in
+    let l = leads _ t.sound n (n - 2) (omega arith) (omega arith) in
     subst (λ s. NodeOf s s) (sym l.2) (node_itself refl)
 
 -- the nodes of a set are those that are reached from its number

@@ -35,6 +35,14 @@ Apart xs = (j k : ℕ) → j < k → k < length xs → node_at xs j ≢ node_at 
 abbrev pub Coded : List Node → Type 0
 Coded xs = (k : ℕ) → k < length xs → (node_at xs k).code < 512
 
+-- the rules that the nodes of every table keep
+pub record Sound (xs : List Node) : Type 0 where
+  pub filled : Filled xs
+  pub climbing : Climbing xs
+  pub falling : Falling xs
+  pub apart : Apart xs
+  pub coded : Coded xs
+
 -- the set that the number n stands for, by the first k nodes: the clauses of the with-side with the node's code in front, then those of the without-side
 unfoldable pub family : List Node → ℕ → ℕ → List (List ℕ)
 family xs zero n = cond (n == 1) ([] ∷ []) []

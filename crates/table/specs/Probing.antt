@@ -53,3 +53,8 @@ pub record Strays (xs : List Node) (rs : List Slot) (x : Node) (p : ℕ) : Type 
 -- of no node of the table is that so: its lookup meets its record before any free one
 abbrev pub Findable : List Node → List Slot → Type 0
 Findable xs rs = (k : ℕ) → k < length xs → (p : ℕ) → Strays xs rs (node_at xs k) p → ⊥
+
+-- every node is found, and no more records are in use than there are nodes
+pub record Indexed (xs : List Node) (rs : List Slot) : Type 0 where
+  pub findable : Findable xs rs
+  pub spare : used rs ≤ length xs
