@@ -15,7 +15,7 @@ use Rattle.grammar.specs.Places.{Draft, empty, with_variables, with_declared, In
 use Rattle.grammar.specs.Places.Goes.{goes_problem, goes_format, goes_variables, goes_count, goes_quantifier, goes_first, goes_next, goes_line, goes_literal, goes_clause}
 use Rattle.grammar.specs.Places.Leads.{here, on}
 use Rattle.grammar.specs.Refusals.{rests, ended}
-use Rattle.grammar.specs.Steps.{Next, Answer, stepped, refuse, reading_of, finish, after, read_from, read_all}
+use Rattle.grammar.specs.Steps.{Next, stepped, refuse, reading_of, finish, after, read_from, read_all}
 use Rattle.grammar.proofs.Bindings.{not_bound, distinct_more}
 use Rattle.grammar.proofs.Stands.{step_goes}
 use Rattle.grammar.proofs.Tails.{tail}
@@ -39,9 +39,6 @@ reaches text (w ∷ ws) p d f h = go (reaches text ws) (stepped p d w) refl
         let g : refuse r w.at ≡ Ok f = sym (ap (λ (n : Next). after n w.at (λ q e. read_from q e text ws)) is) ∙ h in
         cc
 
-same_reading : (f g : Reading) (x : Answer) → x ≡ Ok f → x ≡ Ok g → f ≡ g
-same_reading f g x p q = cc
-
 record Finished (p : Place) (d : Draft) (text : List ℕ) (f : Reading) : Type 0 where
   rest : rests p ≡ true
   end : ended text ≡ true
@@ -55,8 +52,8 @@ finished p d text f h = at_rest (rests p && ended text) refl
     counted true t k = let g = sym (cond-true _ _ _ k ∙ cond-true _ _ _ t) ∙ h in cc
     counted false t k =
         let a = and_parts (rests p) (ended text) k in
-        let g = cond-true _ _ _ k ∙ cond-false _ _ _ t in
-        record { rest = a.0; end = a.1; enough = ltb-false _ _ t; is = same_reading (reading_of d) f _ g h }
+        let g : finish p d text ≡ Ok (reading_of d) = cond-true _ _ _ k ∙ cond-false _ _ _ t in
+        record { rest = a.0; end = a.1; enough = ltb-false _ _ t; is = cc }
 
     at_rest : (t : Bool) → (rests p && ended text) ≡ t → Finished p d text f
     at_rest true t = counted (ltb d.finished d.declared) refl t

@@ -1,13 +1,13 @@
 -- A prefix that binds no variable twice.
 use Rattle.std.proofs.Common.{◌≡◌, ℕ, ◌+◌, Bool, true, false, eqb, List, [], ◌∷◌, ◌++◌, is_some, Some, None, Option, sym, refl, ◌∙◌}
-use Rattle.std.proofs.lemmas.Bool.{both_ways, cond-true, cond-false, eqb-false, ne_eqb}
+use Rattle.std.proofs.lemmas.Bool.{cond-true, cond-false, eqb-false, ne_eqb}
 use Rattle.std.specs.List.{AllByRecursion}
 use Rattle.qbf.specs.Lists.{Distinct}
 use Rattle.formula.specs.declared.prefix.Binding.{Binding}
 use Rattle.formula.specs.Positions.{variables_of, position_from, position}
 
 pub none_of : (o : Option ℕ) → is_some o ≡ false → o ≡ None
-none_of (Some p) e = absurd (both_ways true e refl)
+none_of (Some p) e = cc
 none_of None e = refl
 
 -- a variable that is not bound is none of the prefix's

@@ -12,7 +12,7 @@ use Rattle.grammar.specs.Places.Leads.{here, on}
 use Rattle.grammar.specs.Refusals.{breaks, breaks_at_end, rests, ended, Broken, Refused}
 use Rattle.grammar.specs.Refusals.Broken.{too_long, at_word, at_end}
 use Rattle.grammar.specs.Rules.{number_of}
-use Rattle.grammar.specs.Steps.{Next, Answer, stepped, refuse, finish, after, read_from, read_all}
+use Rattle.grammar.specs.Steps.{Next, stepped, refuse, finish, after, read_from, read_all}
 use Rattle.grammar.proofs.Judged.{step_refuses, step_broken}
 use Rattle.grammar.proofs.Moves.{goes_step}
 use Rattle.grammar.proofs.Stands.{step_goes}
@@ -39,14 +39,11 @@ finish_refuses ClauseCount p d text e = on_end (rests p && ended text) refl
     on_end true t = (ClauseCount, cond-true _ _ _ t ∙ cond-true _ _ _ e, omega arith)
     on_end false t = (Misplaced, cond-false _ _ _ t, omega arith)
 
-same_fault : (r : Rule) (at : ℕ) (e : ReadFault) (x : Answer) → x ≡ refuse r at → x ≡ Err e → fault_at r at ≡ e
-same_fault r at e x p q = cc
-
 finish_broken : (p : Place) (d : Draft) (text : List ℕ) (e : ReadFault) → finish p d text ≡ Err e → (breaks_at_end e.rule p d text ≡ true) × (e.at ≡ length text)
 finish_broken p d text e h = on_end (rests p && ended text) refl
   where
     told : (r : Rule) → breaks_at_end r p d text ≡ true → finish p d text ≡ refuse r (length text) → (breaks_at_end e.rule p d text ≡ true) × (e.at ≡ length text)
-    told r b f = let z : fault_at r (length text) ≡ e = same_fault r (length text) e _ f h in subst (λ (x : ReadFault). (breaks_at_end x.rule p d text ≡ true) × (x.at ≡ length text)) z (b, refl)
+    told r b f = let z : fault_at r (length text) ≡ e = cc in subst (λ (x : ReadFault). (breaks_at_end x.rule p d text ≡ true) × (x.at ≡ length text)) z (b, refl)
 
     on_count : (t : Bool) → ltb d.finished d.declared ≡ t → (rests p && ended text) ≡ true → (breaks_at_end e.rule p d text ≡ true) × (e.at ≡ length text)
     on_count true t k = told ClauseCount t (cond-true _ _ _ k ∙ cond-true _ _ _ t)
@@ -120,7 +117,7 @@ err_refused text e h = record {
   broken = broken_by text e h;
   least = λ s k b.
       let r = refused_by text s k b in
-      let z : fault_at r.0 k ≡ e = same_fault r.0 k e (read_all text) r.1 h in
+      let z : fault_at r.0 k ≡ e = cc (r.1) in
       let a : e.at ≡ k = sym (ap (λ (x : ReadFault). x.at) z) in
       let n : number_of e.rule ≤ number_of s = subst (λ (x : ReadFault). number_of x.rule ≤ number_of s) z r.2 in
       inr (a, n);

@@ -31,9 +31,6 @@ second false y h e = absurd (false≢true h)
 first_of : (x y : Bool) → not (x && y) ≡ false → (x ≡ true) × (y ≡ true)
 first_of x y e = and_parts x y (not-false (x && y) e)
 
-spelt : (bs word : List ℕ) → bytes_eq bs word ≡ true → bs ≡ word
-spelt bs word e = (bytes_eq-Decides bs word).0 e
-
 number_is : (max : ℕ) (bs : List ℕ) → numeral bs ≡ true → number_out_of_range max bs ≡ false → read_number max bs ≡ Ok (value_of bs)
 number_is max bs n o = cond-true _ _ _ n ∙ cond-false _ _ _ o
 
@@ -72,10 +69,10 @@ word_goes p d w h lit o u r = on (eqb n 0) refl
 clear_goes : (p : Place) (d : Draft) (w : Token) → Clear p d w → To p d w (target p d w)
 clear_goes Problem d w c =
     let f = first_of w.first _ c.placed in
-    goes_problem f.0 (spelt _ p_word f.1)
+    goes_problem f.0 ((bytes_eq-Decides _ p_word).0 f.1)
 clear_goes Format d w c =
     let f = or_parts w.first _ c.placed in
-    goes_format f.0 (spelt _ cnf_word (not-false _ f.1))
+    goes_format f.0 ((bytes_eq-Decides _ cnf_word).0 (not-false _ f.1))
 clear_goes Variables d w c =
     let f = or_parts w.first _ c.placed in
     let n = not-false (numeral w.bytes) f.1 in
@@ -89,11 +86,11 @@ clear_goes Line d w c =
     line (bytes_eq w.bytes (letter Universal)) refl (not-false w.first f.0) (not-false _ f.1)
   where
     existential : (e : Bool) → bytes_eq w.bytes (letter Existential) ≡ e → w.first ≡ true → (e || literal w.bytes) ≡ true → To Line d w (cond e (FirstVariable Existential, d) (word_target d w.bytes))
-    existential true e f h = goes_quantifier f (spelt _ (letter Existential) e)
+    existential true e f h = goes_quantifier f ((bytes_eq-Decides _ (letter Existential)).0 e)
     existential false e f lit = word_goes Line d w f lit (second _ _ lit c.in_range) (second _ _ lit c.bound) (room_for true (literal w.bytes) d lit c.room)
 
     line : (a : Bool) → bytes_eq w.bytes (letter Universal) ≡ a → w.first ≡ true → (a || (bytes_eq w.bytes (letter Existential) || literal w.bytes)) ≡ true → To Line d w (cond a (FirstVariable Universal, d) (cond (bytes_eq w.bytes (letter Existential)) (FirstVariable Existential, d) (word_target d w.bytes)))
-    line true a f h = goes_quantifier f (spelt _ (letter Universal) a)
+    line true a f h = goes_quantifier f ((bytes_eq-Decides _ (letter Universal)).0 a)
     line false a f h = existential (bytes_eq w.bytes (letter Existential)) refl f h
 clear_goes (FirstVariable q) d w c =
     let f = or_parts w.first _ c.placed in

@@ -1,7 +1,7 @@
 -- Which clauses are stored.
 use Rattle.std.proofs.Common.{◌≡◌, ℕ, Bool, true, false, ◌⊎◌, List, [], ◌∷◌, ◌++◌, map, sym, refl, ap, ◌∙◌, subst, inl, inr, ⊎_elim, append_assoc, append-nil}
 use Rattle.std.proofs.ByRecursion.{All-push}
-use Rattle.std.proofs.lemmas.Bool.{both_ways, false≢true, cond-true, cond-false, or_cases, or_parts, false_from_ne_true}
+use Rattle.std.proofs.lemmas.Bool.{both_ways, false≢true, false_from_ne_true, cond-true, cond-false, or_cases, or_parts}
 use Rattle.std.specs.List.{AllByRecursion}
 use Rattle.qbf.specs.Lists.{In}
 use Rattle.qbf.proofs.Lists.{in_left, in_right}

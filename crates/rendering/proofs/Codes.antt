@@ -9,7 +9,7 @@ use Rattle.rendering.specs.Render.{literal_of}
 
 -- the variable that is bound at a place stands there
 stands_at : (n variable : ℕ) (bs : List Binding) (p : ℕ) → position_from n variable bs ≡ Some p → (j : ℕ) × (p ≡ n + j) × (get_or (variables_of bs) j 0 ≡ variable)
-stands_at n variable [] p e = absurd (cc)
+stands_at n variable [] p e = cc
 stands_at n variable (b ∷ bs) p e = on (stands_at (n + 1) variable bs p) (eqb b.variable variable) refl
   where
     on : (position_from (n + 1) variable bs ≡ Some p → (j : ℕ) × (p ≡ n + 1 + j) × (get_or (variables_of bs) j 0 ≡ variable)) → (t : Bool) → eqb b.variable variable ≡ t → (j : ℕ) × (p ≡ n + j) × (get_or (variables_of (b ∷ bs)) j 0 ≡ variable)

@@ -6,6 +6,7 @@ use Rattle.words.specs.Split.{Cut, Runs, Words}
 use Rattle.words.specs.Split.Runs.{done, line_end, space, word}
 use Rattle.words.specs.Split.Words.{comment, last_comment, blank, last_blank, body}
 use Rattle.words.proofs.Openings.{are}
+use Rattle.words.proofs.Places.{uncut}
 use Rattle.grammar.specs.Grammar.{Ended}
 
 -- a byte of a word, as the digit 0 is one
@@ -55,10 +56,6 @@ some_left : (d : ℕ) (w rest : List ℕ) → 0 < length w → AllByRecursion In
 some_left d [] rest some ink e = absurd (omega arith)
 some_left d (b ∷ w) [] some ink e = absurd (last_ink b w ink.0 ink.1 (sym (last_append b w []) ∙ e))
 some_left d (b ∷ w) (c ∷ rest) some ink e = omega arith
-
-uncut : (w rest : List ℕ) → 0 < length w → AllByRecursion Inked w → Cut (w ++ rest) → ⊥
-uncut [] rest some ink cut = absurd (omega arith)
-uncut (b ∷ w) rest some ink cut = cut ink.0
 
 cost_runs : {off : ℕ} {f : Bool} {bs : List ℕ} {ws : List Token} → Runs off f bs ws → (d : ℕ) → last d bs ≡ 10 → (Cut bs → 0 < length bs → cost ws < length bs) × (cost ws ≤ length bs)
 cost_runs done d e = (λ c l. l, omega arith)

@@ -1,9 +1,9 @@
 -- A set of clauses in its one form is stored as it is.
-use Rattle.std.proofs.Common.{◌≡◌, ℕ, ◌<◌, ◌≤◌, Bool, true, false, List, [], ◌∷◌, ◌++◌, map, length, sym, refl, ap, ◌∙◌, subst, inl, inr, append_assoc, append-nil, arith}
+use Rattle.std.proofs.Common.{◌≡◌, ℕ, ◌<◌, ◌≤◌, true, false, List, [], ◌∷◌, ◌++◌, map, length, sym, refl, ap, ◌∙◌, subst, inl, inr, append_assoc, append-nil, arith}
 use Rattle.std.specs.List.{AllByRecursion}
 use Rattle.std.proofs.ByRecursion.{All-push, All-weaker, All-map}
 use Rattle.std.proofs.lemmas.List.{length-map}
-use Rattle.std.proofs.lemmas.Bool.{both_ways, cond-false, or_from}
+use Rattle.std.proofs.lemmas.Bool.{both_ways, false_from_ne_true, cond-false, or_from}
 use Rattle.qbf.specs.Lists.{In}
 use Rattle.qbf.specs.Clauses.{below, Rising, Canonical}
 use Rattle.clause.specs.Once.{once, both_signs, same_set}
@@ -51,13 +51,9 @@ rising_same (x ∷ c) (y ∷ d) r t h =
         absurd (omega arith)
 
 unlike : (c d : List ℕ) → Rising c → Rising d → below d c ≡ true → same_set c d ≡ false
-unlike c d r t b = on (same_set c d) refl
-  where
-    on : (s : Bool) → same_set c d ≡ s → same_set c d ≡ false
-    on true s =
-        let e = rising_same c d r t ((same c d).0 s) in
-        absurd (both_ways (below c c) (below_not_self c) (subst (λ (x : List ℕ). below x c ≡ true) (sym e) b))
-    on false s = s
+unlike c d r t b = false_from_ne_true _ (λ s.
+    let e = rising_same c d r t ((same c d).0 s) in
+    both_ways (below c c) (below_not_self c) (subst (λ (x : List ℕ). below x c ≡ true) (sym e) b))
 
 unrepeated : (c : List ℕ) (stored : List (List ℕ)) → Rising c → AllByRecursion Rising stored → AllByRecursion (λ d. below d c ≡ true) stored → repeated c stored ≡ false
 unrepeated c [] r a b = refl
@@ -115,14 +111,10 @@ codes_formed P written a =
     all_formed (AllByRecursion P) [] (store_all [] written) tt (All-weaker (AllByRecursion P) (λ c. AllByRecursion P (clause_of c)) (all_clause P) (store_all [] written) (codes_stored P written a))
 
 one_sign : (c : List ℕ) → both_signs c ≡ false → both_signs (clause_of c) ≡ false
-one_sign c b = on (both_signs (clause_of c)) refl
-  where
-    on : (t : Bool) → both_signs (clause_of c) ≡ t → both_signs (clause_of c) ≡ false
-    on true t =
-        let k = (signs (clause_of c)).0 t in
-        let m = (clause_members c).1 in
-        absurd (both_ways (both_signs c) b ((signs c).1 (k.0, (m k.0).0 k.1, (m _).0 k.2)))
-    on false t = t
+one_sign c b = false_from_ne_true _ (λ t.
+    let k = (signs (clause_of c)).0 t in
+    let m = (clause_members c).1 in
+    both_ways (both_signs c) b ((signs c).1 (k.0, (m k.0).0 k.1, (m _).0 k.2)))
 
 pub one_sign_formed : (written : List (List ℕ)) → AllByRecursion (λ c. both_signs c ≡ false) (formed [] (store_all [] written))
 one_sign_formed written =

@@ -61,9 +61,9 @@ total_left f h ys l = less l ys refl
   where
     less : {xs zs : List (List ℕ)} → LeavesOut xs zs → (ys : List (List ℕ)) → zs ≡ map once ys → total f xs ≤ total f ys
     less done ys e = omega arith
-    less (keeps l) [] e = absurd (cc)
+    less (keeps l) [] e = cc
     less (keeps {x} l) (y ∷ ys) e = let ih = less l ys (cc) in let g : x ≡ once y = cc in omega (arith, h y, ap f g)
-    less (skips l) [] e = absurd (cc)
+    less (skips l) [] e = cc
     less (skips l) (y ∷ ys) e = let ih = less l ys (cc) in omega arith
 
 -- a sum over literals, and m more for each clause

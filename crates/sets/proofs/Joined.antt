@@ -1,5 +1,5 @@
 -- Sets by their two sides: what the operations make of them.
-use Rattle.std.proofs.Common.{◌≡◌, ℕ, ◌+◌, ◌<◌, ◌≤◌, true, false, not, ◌⊎◌, List, [], ◌∷◌, map, length, sym, refl, ap, ◌∙◌, subst, inl, inr, arith, length-append}
+use Rattle.std.proofs.Common.{◌≡◌, ℕ, ◌+◌, ◌<◌, ◌≤◌, true, not, ◌⊎◌, List, [], ◌∷◌, map, length, sym, refl, ap, ◌∙◌, subst, inl, inr, arith, length-append}
 use Rattle.std.specs.List.{AllByRecursion}
 use Rattle.std.proofs.lemmas.Bool.Decides.{nat_tests}
 use Rattle.std.proofs.lemmas.List.{length-map}
@@ -101,16 +101,13 @@ over_union k s t = all_union (AllByRecursion (λ y. k < y)) s t
 
 -- the clauses without a literal, and those with it
 
-absent : (l k : ℕ) (c : List ℕ) → l ≤ k → AllByRecursion (λ y. k < y) c → mem l c ≡ false
-absent l k c h a = above_absent l k c h a
-
 pub lacking_over : (l k : ℕ) (s : Set) → l ≤ k → Over k s → lacking l s ≡ s
 lacking_over l k [] h a = refl
-lacking_over l k (c ∷ s) h a = let ih = lacking_over l k s h a.1 in let e = absent l k c h a.0 in grind (arith, nat_tests)
+lacking_over l k (c ∷ s) h a = let ih = lacking_over l k s h a.1 in let e = above_absent l k c h a.0 in grind (arith, nat_tests)
 
 pub holding_over : (l k : ℕ) (s : Set) → l ≤ k → Over k s → holding l s ≡ []
 holding_over l k [] h a = refl
-holding_over l k (c ∷ s) h a = let ih = holding_over l k s h a.1 in let e = absent l k c h a.0 in grind (arith, nat_tests)
+holding_over l k (c ∷ s) h a = let ih = holding_over l k s h a.1 in let e = above_absent l k c h a.0 in grind (arith, nat_tests)
 
 pub lacking_here : (l : ℕ) (hi lo : Set) → Over l lo → lacking l (joined l hi lo) ≡ lo
 lacking_here l [] lo a = lacking_over l l lo (omega arith) a
@@ -127,7 +124,7 @@ pub taken_out_here : (l : ℕ) (hi lo : Set) → Over l hi → Over l lo → tak
 taken_out_here l [] lo h a = taken_out_over l l lo (omega arith) a
 taken_out_here l (c ∷ hi) lo h a =
     let ih = taken_out_here l hi lo h.1 a in
-    let w = without_absent l c (absent l l c (omega arith) h.0) in
+    let w = without_absent l c (above_absent l l c (omega arith) h.0) in
     grind (arith, nat_tests)
 
 pub taken_out_other : (l k : ℕ) (hi lo : Set) → (k ≡ l → ⊥) → taken_out l (joined k hi lo) ≡ joined k (taken_out l hi) (taken_out l lo)
@@ -157,7 +154,7 @@ count_other l k (c ∷ hi) lo n = let ih = count_other l k hi lo n in grind (ari
 
 pub empty_joined : (k : ℕ) (hi lo : Set) → In [] (joined k hi lo) → In [] lo
 empty_joined k [] lo i = i
-empty_joined k (c ∷ hi) lo (inl e) = absurd (let z : ◌≡◌ {A = ℕ} 0 1 = cc in let no : ⊥ = omega arith in no)
+empty_joined k (c ∷ hi) lo (inl e) = cc
 empty_joined k (c ∷ hi) lo (inr i) = empty_joined k hi lo i
 
 pub joined_low : (k : ℕ) (c : List ℕ) (hi lo : Set) → In c lo → In c (joined k hi lo)
@@ -184,9 +181,9 @@ pub node_high : {x : Set} (k : ℕ) (hi lo : Set) → Over k lo → Node x hi �
 node_high {x} k [] lo a n = absurd (none x [] n refl)
   where
     none : (x s : Set) → Node x s → s ≡ [] → ⊥
-    none x s (node_itself e) f = let z : ◌≡◌ {A = ℕ} 0 1 = cc in omega arith
-    none x s (node_with n) f = let z : ◌≡◌ {A = ℕ} 0 1 = cc in omega arith
-    none x s (node_without n) f = let z : ◌≡◌ {A = ℕ} 0 1 = cc in omega arith
+    none x s (node_itself e) f = cc
+    none x s (node_with n) f = cc
+    none x s (node_without n) f = cc
 node_high {x} k (c ∷ hi) lo a n = node_with (subst (Node x) (sym (side_with k (c ∷ hi) lo a)) n)
 
 -- a node of a set is the set or a node of a side
@@ -203,6 +200,6 @@ node_cases {x} (node_without {k = j} {c = d} {s} n) k c hi lo f a =
 
 -- the two sets without nodes
 pub node_none : {x s : Set} → Node x s → (s ≡ []) ⊎ (s ≡ [] ∷ []) → ⊥
-node_none (node_itself e) f = elim f [ inl g ↦ (let z : ◌≡◌ {A = ℕ} 0 1 = cc in omega arith) | inr g ↦ (let z : ◌≡◌ {A = ℕ} 0 1 = cc in omega arith) ]
-node_none (node_with n) f = elim f [ inl g ↦ (let z : ◌≡◌ {A = ℕ} 0 1 = cc in omega arith) | inr g ↦ (let z : ◌≡◌ {A = ℕ} 0 1 = cc in omega arith) ]
-node_none (node_without n) f = elim f [ inl g ↦ (let z : ◌≡◌ {A = ℕ} 0 1 = cc in omega arith) | inr g ↦ (let z : ◌≡◌ {A = ℕ} 0 1 = cc in omega arith) ]
+node_none (node_itself e) f = elim f [ inl g ↦ (cc) | inr g ↦ (cc) ]
+node_none (node_with n) f = elim f [ inl g ↦ (cc) | inr g ↦ (cc) ]
+node_none (node_without n) f = elim f [ inl g ↦ (cc) | inr g ↦ (cc) ]

@@ -25,7 +25,7 @@ holding_members l c s = (
 )
 
 some_in : {A : Type 0} (xs : List A) → 0 < length xs → (x : A) × In x xs
-some_in [] h = absurd (let no : ⊥ = omega arith in no)
+some_in [] h = absurd (omega arith)
 some_in (x ∷ xs) h = (x, inl refl)
 
 in_some : {A : Type 0} (x : A) (xs : List A) → In x xs → 0 < length xs

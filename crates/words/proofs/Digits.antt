@@ -19,7 +19,7 @@ pub value_step : (n : ℕ) (xs : List ℕ) (i : ℕ) → i < length xs → value
 value_step n xs i h = at_drop_more (value_from n) xs i 0 h
 
 -- further digits make no number less
-value_least : (n : ℕ) (ds : List ℕ) → n ≤ value_from n ds
+pub value_least : (n : ℕ) (ds : List ℕ) → n ≤ value_from n ds
 value_least n [] = omega arith
 value_least n (d ∷ ds) = let h = value_least (n * 10 + (d - 48)) ds in omega arith
 

@@ -48,8 +48,8 @@ inked [] = (tt, tt)
 inked (b ∷ bs) = on (byte b) (inked bs)
   where
     on : {b : ℕ} → Byte b → Inked bs (prefix_len ink bs) → Inked (b ∷ bs) (prefix_len ink (b ∷ bs))
-    on at_line_end h = (tt, λ e. let z : ◌≡◌ {A = ℕ} 0 1 = cc in omega arith)
-    on at_space h = (tt, λ e. let z : ◌≡◌ {A = ℕ} 0 1 = cc in omega arith)
+    on at_line_end h = (tt, λ e. cc)
+    on at_space h = (tt, λ e. cc)
     on at_c h = more_ink 99 bs refl h
     on (at_other {b} e l c) h = more_ink b bs e h
 

@@ -34,10 +34,10 @@ in_comment : (b : ℕ) → (b ≡ 10 → ⊥) → onward Comment b ≡ Some Comm
 in_comment b h = grind (arith, nat_tests)
 
 blank_bare : Bare Blank
-blank_bare e = let z : ◌≡◌ {A = ℕ} 0 1 = cc in omega arith
+blank_bare e = cc
 
 start_bare : Bare Start
-start_bare e = let z : ◌≡◌ {A = ℕ} 0 1 = cc in omega arith
+start_bare e = cc
 
 -- a comment up to its line end, or to the text's end
 past_comment : (off : ℕ) (line rest : List ℕ) → AllByRecursion (λ b. b ≡ 10 → ⊥) line → scan (ahead Comment) off (line ++ 10 ∷ rest) ≡ scan (ahead Start) (off + length line + 1) rest
@@ -67,7 +67,7 @@ in_body : (l : Line) → Bare l → (off : ℕ) (spaces : List ℕ) (b : ℕ) (r
 in_body l bare off [] b rest h ink other = onto l off b rest None (begins l bare b ink (λ e. other e refl)) ∙ sym (at_kind (gapped true) off b rest Ink ink)
 in_body l bare off (s ∷ spaces) b rest h ink other =
     onto l off s (spaces ++ b ∷ rest) (Some Blank) (ap (onward l) h.0 ∙ on_space l bare)
-    ∙ in_body Blank blank_bare (off + 1) spaces b rest h.1 ink (λ e. absurd (let z : ◌≡◌ {A = ℕ} 0 1 = cc in omega arith))
+    ∙ in_body Blank blank_bare (off + 1) spaces b rest h.1 ink (λ e. cc)
     ∙ sym (at_kind (gapped true) off s (spaces ++ b ∷ rest) Space (ap kind h.0))
 
 pub only : {off : ℕ} {text : List ℕ} {ws : List Token} → Words off text ws → ws ≡ scan (ahead Start) off text

@@ -43,7 +43,7 @@ words_stand_lem text =
     let p = placed (are text) text [] 0 refl refl (omega arith) in
     record { are = are text; only = λ ws h. only h; rise = p.rise; stand = p.stand }
 
-uncut : (w rest : List ℕ) → 0 < length w → AllByRecursion (λ b. kind b ≡ Ink) w → Cut (w ++ rest) → ⊥
+pub uncut : (w rest : List ℕ) → 0 < length w → AllByRecursion (λ b. kind b ≡ Ink) w → Cut (w ++ rest) → ⊥
 uncut [] rest some ink cut = absurd (omega arith)
 uncut (b ∷ w) rest some ink cut = cut ink.0
 

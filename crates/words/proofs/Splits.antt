@@ -60,10 +60,10 @@ both (b ∷ bs) = on (both bs) (kind b) refl
     on : ((off : ℕ) (f : Bool) → Runs off f bs (scan (gapped f) off bs)) × Front bs → (k : Kind) → kind b ≡ k → ((off : ℕ) (f : Bool) → Runs off f (b ∷ bs) (scan (gapped f) off (b ∷ bs))) × Front (b ∷ bs)
     on ih LineEnd e =
         let here : (off : ℕ) (f : Bool) → Runs off f (b ∷ bs) (scan (gapped f) off (b ∷ bs)) = λ off f. subst (Runs off f (b ∷ bs)) (sym (at_kind (gapped f) off b bs LineEnd e)) (line_end e (ih.0 (off + 1) true)) in
-        (here, record { w = []; rest = b ∷ bs; whole = refl; ink = tt; cut = λ i. let z : ◌≡◌ {A = ℕ} 0 1 = cc in omega arith; left = here })
+        (here, record { w = []; rest = b ∷ bs; whole = refl; ink = tt; cut = λ i. cc; left = here })
     on ih Space e =
         let here : (off : ℕ) (f : Bool) → Runs off f (b ∷ bs) (scan (gapped f) off (b ∷ bs)) = λ off f. subst (Runs off f (b ∷ bs)) (sym (at_kind (gapped f) off b bs Space e)) (space e (ih.0 (off + 1) f)) in
-        (here, record { w = []; rest = b ∷ bs; whole = refl; ink = tt; cut = λ i. let z : ◌≡◌ {A = ℕ} 0 1 = cc in omega arith; left = here })
+        (here, record { w = []; rest = b ∷ bs; whole = refl; ink = tt; cut = λ i. cc; left = here })
     on ih Ink e =
         let r = ih.1 in
         let all : b ∷ bs ≡ (b ∷ r.w) ++ r.rest = ap (λ (l : List ℕ). b ∷ l) r.whole in (
