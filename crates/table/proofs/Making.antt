@@ -1,21 +1,12 @@
 -- The making of one set after another.
-use Rattle.std.proofs.Common.{ℕ, List, [], ◌∷◌, ◌++◌, Ok, Err, Result, sym, refl, ap, ◌∙◌, subst, inl, inr, append_assoc}
+use Rattle.std.proofs.Common.{ℕ, List, [], ◌∷◌, ◌++◌, Ok, Err, Result, sym, refl, ap, ◌∙◌, subst, append_assoc}
 use Rattle.std.specs.List.{AllByRecursion}
 use Rattle.std.proofs.ByRecursion.{All-append, All-weaker}
-use Rattle.qbf.specs.Lists.{In}
+use Rattle.qbf.proofs.Lists.{in_left, in_right}
 use Rattle.table.specs.declared.table.Full.{Full}
 use Rattle.table.specs.declared.table.Table.{Table}
 use Rattle.table.specs.Tables.{Held, Adds, Makes, Made, Stopped, MakesAll}
 use Rattle.table.proofs.Grown.{Within, adds_same, adds_widen, adds_then, held_kept}
-
-in_left : {A : Type 0} (x : A) (xs ys : List A) → In x xs → In x (xs ++ ys)
-in_left x [] ys h = absurd h
-in_left x (y ∷ xs) ys (inl e) = inl e
-in_left x (y ∷ xs) ys (inr i) = inr (in_left x xs ys i)
-
-in_right : {A : Type 0} (x : A) (xs ys : List A) → In x ys → In x (xs ++ ys)
-in_right x [] ys h = h
-in_right x (y ∷ xs) ys h = inr (in_right x xs ys h)
 
 within_left : (sets more : List (List (List ℕ))) → Within sets (sets ++ more)
 within_left sets more x s i n = (s, in_left s sets more i, n)
