@@ -45,7 +45,7 @@ impl Table {
     }
 
     // The node of a set that has a non-empty clause. The caller has tested that: with an `Option` here, as `Set::branches`
-    // has it, a union takes two fifths more steps.
+    // has it, a union takes half as many steps again.
     pub fn node(&self, number: u16) -> Node
         requires held { Number self.now number }
         requires filled { 2 ≤ number }
