@@ -1,25 +1,15 @@
 -- Literals in a clause, and elements of a list.
-use Rattle.std.proofs.Common.{◌≡◌, ℕ, ◌<◌, ◌≤◌, Bool, true, false, eqb, List, [], ◌∷◌, map, filter, sym, refl, ap, subst, inl, inr, arith}
+use Rattle.std.proofs.Common.{◌≡◌, ℕ, ◌<◌, ◌≤◌, Bool, true, false, eqb, List, [], ◌∷◌, map, filter, refl, ap, inl, inr, arith}
 use Rattle.std.specs.List.{AllByRecursion}
 use Rattle.std.proofs.lemmas.Bool.Decides.{nat_tests}
 use Rattle.std.proofs.lemmas.Bool.{cond_both}
 use Rattle.qbf.specs.Lists.{In, mem, without}
 use Rattle.qbf.specs.Clauses.{Rising}
-
-pub mem_in : (m : ℕ) (c : List ℕ) → mem m c ≡ true → In m c
-mem_in m [] e = grind (arith, nat_tests)
-mem_in m (x ∷ c) e = let ih = mem_in m c in grind (arith, nat_tests)
-
-pub in_mem : (m : ℕ) (c : List ℕ) → In m c → mem m c ≡ true
-in_mem m [] h = absurd h
-in_mem m (x ∷ c) h = let ih = in_mem m c in grind (arith, nat_tests)
+pub use Rattle.qbf.proofs.Lists.{mem_in, in_mem, mem_not_in as mem_not, all_in}
 
 pub not_mem : (m : ℕ) (c : List ℕ) → (In m c → ⊥) → mem m c ≡ false
 not_mem m [] n = refl
 not_mem m (x ∷ c) n = let ih = not_mem m c (λ i. n (inr i)) in let o : m ≡ x → ⊥ = λ e. n (inl e) in grind (arith, nat_tests)
-
-pub mem_not : (m : ℕ) (c : List ℕ) → mem m c ≡ false → In m c → ⊥
-mem_not m c e i = let t = in_mem m c i in grind (arith, nat_tests)
 
 pub without_absent : (l : ℕ) (c : List ℕ) → mem l c ≡ false → without l c ≡ c
 without_absent l [] e = refl
@@ -37,11 +27,6 @@ all_without P m (x ∷ c) h = let ih = all_without P m c h.1 in cond_both (eqb m
 pub rising_without : (m : ℕ) (c : List ℕ) → Rising c → Rising (without m c)
 rising_without m [] h = tt
 rising_without m (x ∷ c) h = let ih = rising_without m c h.1 in cond_both (eqb m x) _ _ Rising (λ e. ih) (λ e. (all_without (λ y. x < y) m c h.0, ih))
-
-pub all_in : {A : Type 0} (P : A → Type 0) (s : List A) (x : A) → AllByRecursion P s → In x s → P x
-all_in P [] x a h = absurd h
-all_in P (y ∷ s) x a (inl e) = subst P (sym e) a.0
-all_in P (y ∷ s) x a (inr h) = all_in P s x a.1 h
 
 pub in_kept : {A : Type 0} (p : A → Bool) (x : A) (s : List A) → In x (filter p s) → In x s × (p x ≡ true)
 in_kept p x [] h = absurd h
