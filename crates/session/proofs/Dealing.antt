@@ -45,27 +45,27 @@ module _ {M : Type 0} (held : M → Pairs) where
   begins_under p s b (other_prefix ne empty) = refl
 
   -- a load under another prefix
-  pub begins_other : (s : Standing M) (core : Core) (memo : M) (p : Prefix) → core.prefix ≡ Some p → core.formula ≡ None → sets_of core.table ≡ [] → Empty (held memo) →
+  pub begins_other : (s : Standing M) (core : Core) (memo : M) (p : Prefix) → core.scope ≡ Some (record { prefix = p; formula = None }) → sets_of core.table ≡ [] → Empty (held memo) →
       (s.prefix ≡ Some (bindings_of p) → ⊥) → Begins held (bindings_of p) s (core_stands core memo)
-  begins_other s core memo p ep ef et empty ne =
-      let same : core_stands core memo ≡ record { prefix = Some (bindings_of p); formula = None; table = []; memo = memo } = λ i. record { prefix = prefix_in (ep i); formula = formula_in core.table (ef i); table = et i; memo = memo } in
+  begins_other s core memo p es et empty ne =
+      let same : core_stands core memo ≡ record { prefix = Some (bindings_of p); formula = None; table = []; memo = memo } = λ i. record { prefix = prefix_in (es i); formula = formula_in core.table (es i); table = et i; memo = memo } in
       subst (Begins held (bindings_of p) s) (sym same) (other_prefix ne empty)
 
   module _ (notes : M → ℕ → Bool → M → Type 0) (pick : List Candidate → ℕ) where
     -- the clauses of a text were stored
     pub loads_made : (s : Standing M) (before after : Core) (memo : M) (r : Reading) (text : List ℕ) → read_all text ≡ Ok r → Begins held r.prefix s (core_stands before memo) →
-        after.prefix ≡ before.prefix → Makes (sets_of before.table) (forming [] r.clauses) (sets_of after.table) → formula_in after.table after.formula ≡ Some (formula_of r) →
+        prefix_in after.scope ≡ prefix_in before.scope → Makes (sets_of before.table) (forming [] r.clauses) (sets_of after.table) → formula_in after.table after.scope ≡ Some (formula_of r) →
         Deals held notes pick s (load text (loaded r.variables r.declared)) (core_stands after memo)
     loads_made s before after memo r text e begins ep makes ef =
-        let same : core_stands after memo ≡ record { prefix = prefix_in before.prefix; formula = Some (formula_of r); table = sets_of after.table; memo = memo } = λ i. record { prefix = prefix_in (ep i); formula = ef i; table = sets_of after.table; memo = memo } in
+        let same : core_stands after memo ≡ record { prefix = prefix_in before.scope; formula = Some (formula_of r); table = sets_of after.table; memo = memo } = λ i. record { prefix = ep i; formula = ef i; table = sets_of after.table; memo = memo } in
         subst (Deals held notes pick s (load text (loaded r.variables r.declared))) (sym same) (deals_loaded e begins makes)
 
     -- or one of their sets could not be made
     pub loads_stopped : (s : Standing M) (before after : Core) (memo : M) (r : Reading) (text : List ℕ) → read_all text ≡ Ok r → Begins held r.prefix s (core_stands before memo) →
-        after.prefix ≡ before.prefix → Stops (sets_of before.table) (forming [] r.clauses) (sets_of after.table) → formula_in after.table after.formula ≡ formula_in before.table before.formula →
+        prefix_in after.scope ≡ prefix_in before.scope → Stops (sets_of before.table) (forming [] r.clauses) (sets_of after.table) → formula_in after.table after.scope ≡ formula_in before.table before.scope →
         Deals held notes pick s (load text load_full) (core_stands after memo)
     loads_stopped s before after memo r text e begins ep stops ef =
-        let same : core_stands after memo ≡ record { prefix = prefix_in before.prefix; formula = formula_in before.table before.formula; table = sets_of after.table; memo = memo } = λ i. record { prefix = prefix_in (ep i); formula = ef i; table = sets_of after.table; memo = memo } in
+        let same : core_stands after memo ≡ record { prefix = prefix_in before.scope; formula = formula_in before.table before.scope; table = sets_of after.table; memo = memo } = λ i. record { prefix = ep i; formula = ef i; table = sets_of after.table; memo = memo } in
         subst (Deals held notes pick s (load text load_full)) (sym same) (deals_load_full e begins stops)
 
     -- a core was written, or not

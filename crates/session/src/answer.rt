@@ -10,12 +10,11 @@ pub struct Loaded {
     pub declared: u16,
 }
 
-impl Loaded {
-    // Of a formula that was read.
-    pub fn of(formula: &Formula) -> Loaded
-        ensures variables { result.variables ≡ formula.now.variables }
-        ensures declared { result.declared ≡ formula.now.declared }
-    {
+// Of a formula that was read.
+impl From<&Formula> for Loaded {
+    ghost from_gives = { λ formula loaded. (loaded.variables ≡ formula.now.variables) × (loaded.declared ≡ formula.now.declared) };
+
+    fn from(formula: &Formula) -> Loaded {
         Loaded {
             variables: formula.variables,
             declared: formula.declared,

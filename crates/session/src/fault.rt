@@ -1,9 +1,9 @@
 // Why a call is refused.
 ghost use Rattle.std.specs.Prelude.{◌≡◌, Some};
-ghost use Rattle.session.specs.Told.{halt_number, fault_told, refused_line};
+ghost use Rattle.session.specs.Told.{fault_told, refused_line};
 ghost use Rattle.session.specs.declared.fault.Fault.TheVariants.{Unread, TooShort as Short, TableFull, Undecided};
 
-use decision::{Halt, Unfinished};
+use decision::Unfinished;
 use grammar::ReadFault;
 use std::fmt;
 use table::Full;
@@ -37,7 +37,7 @@ impl Fault {
             Fault::AllowanceTooLarge => 8,
             Fault::TooShort(_) => 9,
             Fault::TableFull => 10,
-            Fault::Undecided(unfinished) => halt_number(unfinished.halt),
+            Fault::Undecided(unfinished) => unfinished.halt as u8,
         }
     }
 
@@ -62,16 +62,6 @@ impl fmt::Display for Fault {
         let number = self.number();
         let value = self.value().unwrap_or(0);
         write!(f, "refused {number} at {value}")
-    }
-}
-
-fn halt_number(halt: Halt) -> u8
-    ensures { result ≡ halt_number halt }
-{
-    match halt {
-        Halt::Full => 10,
-        Halt::Spent => 11,
-        Halt::TooDeep => 12,
     }
 }
 

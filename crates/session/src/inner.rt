@@ -1,12 +1,11 @@
 // What a session holds besides its memo and its chooser.
-ghost use Rattle.std.specs.Prelude.{◌≡◌, ℕ, ◌*◌, ◌<◌, ◌≤◌, true, length, is_some, Some};
-ghost use Rattle.qbf.specs.Reduce.{occurs};
-ghost use Rattle.table.specs.Tables.{Number, clauses};
-ghost use Rattle.session.specs.Places.{bindings_in};
-ghost use Rattle.session.specs.declared.stored.Stored.{Stored};
+ghost use Rattle.std.specs.Prelude.{◌≡◌, Some};
+ghost use Rattle.std.proofs.Props.{props};
+ghost use Rattle.reduction.specs.Numbered.{quantifiers_of, Ready};
+ghost use Rattle.session.specs.declared.scope.Scope.{Scope};
+ghost use Rattle.session.specs.declared.scope.Stored.{Stored};
 
-use crate::stored::Stored;
-use formula::Prefix;
+use crate::scope::Scope;
 use table::Table;
 
 mod work;
@@ -15,10 +14,6 @@ mod work;
 #[derive(Clone, Copy)]
 pub struct Core {
     table: Table,
-    prefix: Option<Prefix>,
-    formula: Option<Stored>,
-    ghost bound: { (f : Stored) → formula ≡ Some f → is_some prefix ≡ true },
-    ghost held: { (f : Stored) → formula ≡ Some f → Number table f.number },
-    ghost few: { (f : Stored) → formula ≡ Some f → length (clauses table f.number) ≤ 2048 },
-    ghost within: { (f : Stored) → formula ≡ Some f → (l : ℕ) → occurs l (clauses table f.number) ≡ true → l < 2 * length (bindings_in prefix) },
+    scope: Option<Scope>,
+    ghost ready: { (s : Scope) (f : Stored) → scope ≡ Some s → s.formula ≡ Some f → Ready (quantifiers_of s.prefix) table f.number } by { Prim.hlevel props },
 }

@@ -10,16 +10,14 @@ ghost use Rattle.session.specs.Laws.{FaultsTold};
 mod answer;
 mod fault;
 mod inner;
+mod scope;
 mod session;
-mod stored;
 
 pub use answer::Loaded;
 pub use fault::Fault;
-pub use session::Session;
+pub use session::{MOST_ALLOWED, Session};
 
 // A refusal is told by the number and the value that its answer has.
-pub fn faults_stand() -> u8
+pub fn faults_stand()
     ensures { FaultsTold }
-{
-    0
-}
+{}

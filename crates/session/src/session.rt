@@ -4,6 +4,8 @@ use crate::inner::Core;
 mod begin;
 mod calls;
 
+pub use calls::MOST_ALLOWED;
+
 #[derive(Drop)]
 pub struct Session<M, C> {
     memo: M,

@@ -1,9 +1,10 @@
 // How a load begins.
-ghost use Rattle.std.specs.Prelude.{◌≡◌, [], None};
+ghost use Rattle.std.specs.Prelude.{◌≡◌, []};
 ghost use Rattle.qbf.specs.Memo.{Empty};
 ghost use Rattle.formula.specs.Views.{bindings_of};
 ghost use Rattle.histories.specs.Standing.{Begins};
 ghost use Rattle.reduction.specs.Numbered.{sets_of};
+ghost use Rattle.session.specs.Places.{begun_under};
 ghost use Rattle.session.specs.Views.{standing};
 
 use crate::session::Session;
@@ -25,8 +26,7 @@ impl<M: Memo, C: Chooser> Session<M, C> {
     // Begins anew under a prefix, or none. What the memo holds is of the old numbers, so it is forgotten.
     pub(crate) fn restart(&mut self, prefix: Option<Prefix>)
         ensures memo { Empty (M.held self.new.memo) }
-        ensures prefix { self.new.core.prefix ≡ prefix }
-        ensures formula { self.new.core.formula ≡ None }
+        ensures scope { self.new.core.scope ≡ begun_under prefix }
         ensures table { sets_of self.new.core.table ≡ [] }
         ensures chooser { self.new.chooser ≡ self.old.chooser }
     {

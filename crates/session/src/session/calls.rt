@@ -1,5 +1,5 @@
 // The calls of a session.
-ghost use Rattle.std.specs.Prelude.{◌≡◌, ◌≤◌, [], length, Decides};
+ghost use Rattle.std.specs.Prelude.{◌≡◌, [], length};
 ghost use Rattle.ledger.specs.Ledger.{forget};
 ghost use Rattle.histories.specs.Standing.{Fresh};
 ghost use Rattle.session.specs.Calls.{LedTo, Dealt, LoadDealt, DecideDealt, WriteDealt, BufferLeft};
@@ -15,22 +15,15 @@ use memos::Memo;
 use reader::read_into;
 
 // The most splits that a decision may be allowed.
-const MOST_ALLOWED: u32 = 1_000_000;
-
-fn is_allowed(allowance: u32) -> bool
-    ensures { Decides result (allowance ≤ 1000000) }
-{
-    allowance <= MOST_ALLOWED
-}
+pub const MOST_ALLOWED: u32 = 1_000_000;
 
 impl<M: Memo, C: Chooser> Session<M, C> {
     // A session with nothing loaded. Whatever the memo held is forgotten.
-    pub fn new(memo: M, chooser: C) -> Session<M, C>
+    pub fn new(mut memo: M, chooser: C) -> Session<M, C>
         ensures fresh { Fresh M.held (standing result) }
         ensures chooser { result.chooser ≡ chooser }
         ensures led { LedTo M.held M.notes C.picks [] result }
     {
-        let mut memo = memo;
         memo.clear();
         Session {
             memo,
@@ -47,14 +40,14 @@ impl<M: Memo, C: Chooser> Session<M, C> {
         read_into(text, &mut formula)?;
         self.begin(&formula.prefix);
         self.core.store(&formula)?;
-        Ok(Loaded::of(&formula))
+        Ok(Loaded::from(&formula))
     }
 
     // The verdict on the loaded formula and the splits that it took, within an allowance of splits.
     pub fn decide(&mut self, allowance: u32) -> Result<(bool, u32), Fault>
         ensures { DecideDealt M.held M.notes C.picks self.old allowance result self.new }
     {
-        if !is_allowed(allowance) {
+        if allowance > MOST_ALLOWED {
             return Err(Fault::AllowanceTooLarge);
         }
         let mut core = self.core;

@@ -1,27 +1,28 @@
-use Rattle.std.proofs.Common.{ap}
+use Rattle.std.proofs.Common.{ap, ◌∙◌, refl}
 use Rattle.std.proofs.lemmas.Result.{err_from_is_err_and}
 use Rattle.formula.specs.Views.{bindings_of}
 use Rattle.session.specs.Places.{prefix_in}
-use Rattle.session.specs.Views.{formula_in}
-use Rattle.session.proofs.Cores.{formula_below}
+use Rattle.session.specs.Views.{stored_in, formula_in}
+use Rattle.session.proofs.Cores.{below_bindings}
 use Rattle.session.proofs.inner.Core.write.Goals as goal
+
+pub returns-in_default-formula : goal.returns-in_default-formula
+returns-in_default-formula c =
+    let table = c.args.self.now.table in
+    (ap (formula_in table) c.in-Some.is ∙ ap (stored_in table) c.in_default-formula.is, refl)
 
 pub write-requires : goal.write-requires
 write-requires c =
-    let core = c.args.self.now in
-    record {
-      held = core.held c.in-Some.formula c.in-Some.is;
-      bound = formula_below core c.in-Some.formula c.in-Some-prefix.prefix c.in-Some.is c.in-Some-prefix.is;
-      few = core.few c.in-Some.formula c.in-Some.is;
-    }
+    let ready = c.args.self.now.ready c.in-Some.scope c.in-Some-formula.formula c.in-Some.is c.in-Some-formula.is in
+    record { held = ready.held; bound = below_bindings c.in-Some.scope.prefix _ ready.within; few = ready.few }
 
-pub returns-in_err-len : goal.returns-in_err-len
-returns-in_err-len c =
-    let core = c.args.self.now in
+pub returns-in_err-write : goal.returns-in_err-write
+returns-in_err-write c =
+    let table = c.args.self.now.table in
     let p = err_from_is_err_and c.from_residual.result c.from_residual.ensures.1 in
-    rw (p.1, p.2) (bindings_of c.in-Some-prefix.prefix, _, ap prefix_in c.in-Some-prefix.is, ap (formula_in core.table) c.in-Some.is, c.in_err-len.ensures)
+    rw (p.1, p.2) (bindings_of c.in-Some.scope.prefix, _, ap prefix_in c.in-Some.is, ap (formula_in table) c.in-Some.is ∙ ap (stored_in table) c.in-Some-formula.is, c.in_err-write.ensures)
 
 pub returns : goal.returns
 returns c =
-    let core = c.args.self.now in
-    (bindings_of c.in-Some-prefix.prefix, _, ap prefix_in c.in-Some-prefix.is, ap (formula_in core.table) c.in-Some.is, c.in_ok-len.ensures)
+    let table = c.args.self.now.table in
+    (bindings_of c.in-Some.scope.prefix, _, ap prefix_in c.in-Some.is, ap (formula_in table) c.in-Some.is ∙ ap (stored_in table) c.in-Some-formula.is, c.in_ok-write.ensures)

@@ -9,7 +9,7 @@ returns-then-not-has_prefix g c =
     let again = c.restart.ensures in
     let after = c.restart.new.self in
     record {
-      begins = begins_other g.M.Memo.held (standing c.args.self.now) after.core after.memo c.args.prefix.now again.prefix again.formula again.table again.memo
+      begins = begins_other g.M.Memo.held (standing c.args.self.now) after.core after.memo c.args.prefix.now again.scope again.table again.memo
           (λ e. true≢false (sym (c.has_prefix.ensures.1 e) ∙ c.if-not-has_prefix.true));
       chooser = again.chooser;
     }

@@ -10,4 +10,4 @@ returns g c =
     let again = c.restart.ensures in
     let after = c.restart.new.self in
     dealt held g.M.Memo.notes g.met.M.Memo.kept g.C.Chooser.picks g.met.C.Chooser.listed c.args.self.now forget after again.chooser
-    (deals_forgot (fresh_core held after.core after.memo again.prefix again.formula again.table again.memo))
+    (deals_forgot (fresh_core held after.core after.memo again.scope again.table again.memo))

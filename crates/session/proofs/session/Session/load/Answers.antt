@@ -52,7 +52,7 @@ returns g c =
     let begun = c.begin.new.self in
     record {
       answer = loaded f.variables f.declared;
-      told = λ i. Ok (record { variables = c.of.ensures.variables i; declared = c.of.ensures.declared i });
+      told = λ i. Ok (record { variables = c.from.ensures.0 i; declared = c.from.ensures.1 i });
       dealt = dealt g.M.Memo.held g.M.Memo.notes g.met.M.Memo.kept g.C.Chooser.picks g.met.C.Chooser.listed c.args.self.now (load text (loaded f.variables f.declared)) _ c.begin.ensures.chooser
           (loads_made g.M.Memo.held g.M.Memo.notes (g.C.Chooser.picks c.args.self.now.chooser) (standing c.args.self.now) begun.core c.store.new.self begun.memo (reading f) text
           (((reading_stands_lem text).accepted (reading f)).1 ((c.in_ok-read_into.ensures.accepted (reading f)).0 refl)) c.begin.ensures.begins c.in_ok-store.ensures.prefix stores.0 stores.1);
