@@ -61,7 +61,7 @@ impl<M: Memo, C: Chooser> Walk<'_, M, C> {
         requires shown { 0 < length (candidates_at self.now number) }
         ensures { ChosenAt C.picks self.now number result }
     {
-        let candidates = find_candidates(self.table, self.prefix, number);
+        let candidates = find_candidates(self.table.set(number), self.prefix);
         let position = self.chooser.choose(candidates.list.as_slice());
         Choice {
             variable: position - 1,

@@ -32,6 +32,11 @@ pub record Ready (prefix : List Quantifier) (t : Table) (n : ℕ) : Type 0 where
   pub within : Within prefix (clauses t n)
   pub few : length (clauses t n) ≤ 2048
 
+-- s is a set over the prefix, of no more clauses than a text has
+pub record Fitting (prefix : List Quantifier) (s : List (List ℕ)) : Type 0 where
+  pub within : Within prefix s
+  pub few : length s ≤ 2048
+
 -- the numbers of t are numbers of u, and stand for the same sets
 abbrev pub Kept : Table → Table → Type 0
 Kept t u = (n : ℕ) → Number t n → Number u n × (clauses u n ≡ clauses t n)

@@ -25,7 +25,7 @@ pub fn reduce(table: &mut Table, prefix: &Prefix, number: u16) -> Result<Reduced
 {
     let mut rest = number;
     loop {
-        match next_step(table, prefix, rest) {
+        match next_step(table.set(rest), prefix) {
             Step::Settled(verdict) => return Ok(Reduced::Decided(verdict)),
             Step::Forced(literal) => rest = set_true(table, rest, literal)?,
             Step::Stuck => return Ok(Reduced::Left(rest)),
