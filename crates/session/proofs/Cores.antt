@@ -63,6 +63,11 @@ ready_stored t p x ready s f e g =
     let formula : x ≡ f = one_some refl (ap (λ (y : Scope). y.formula) scope ∙ g) in
     subst (λ (y : Scope). Ready (quantifiers_of y.prefix) t f.number) scope (subst (λ (y : Stored). Ready (quantifiers_of p) t y.number) formula ready)
 
+-- the loaded formula, where its set is known by another name
+pub stored_there : (t : Table) (o : Option Scope) (s : Scope) (f : Stored) (set : List (List ℕ)) → o ≡ Some s → s.formula ≡ Some f → set ≡ clauses t f.number →
+    formula_in t o ≡ Some (record { variables = f.variables; clauses = set })
+stored_there t o s f set e g h = ap (formula_in t) e ∙ ap (stored_in t) g ∙ ap (λ (x : List (List ℕ)). Some (record { variables = f.variables; clauses = x })) (sym h)
+
 -- a decision of the loaded formula
 pub core_decides : {M : Type 0} (held : M → Pairs) (notes : M → ℕ → Bool → M → Type 0) (pick : List Candidate → ℕ) (core : Core) (memo kept : M) (s : Scope) (f : Stored) (u : Table) (e : Ending) (n allowance : ℕ) →
     core.scope ≡ Some s → s.formula ≡ Some f → allowance ≤ most_allowed → Kept core.table u →
