@@ -26,9 +26,6 @@ puts_then {p} {q} {r} {a} {b} x y =
 pub record Left (p : Pen) (whole rest : List ℕ) (q : Pen) : Type 0 where
   pub ends : (r : Pen) → Puts q rest r → Puts p whole r
 
-pub left_all : (p : Pen) (whole : List ℕ) → Left p whole whole p
-left_all p whole = record { ends = λ r x. x }
-
 -- the next part of the rest is put
 pub left_next : {p q r : Pen} {whole rest a b : List ℕ} → Left p whole rest q → Puts q a r → rest ≡ a ++ b → Left p whole b r
 left_next {q = q} left x e = record { ends = λ s y. left.ends s (subst (λ (l : List ℕ). Puts q l s) (sym e) (puts_then x y)) }
