@@ -4,10 +4,7 @@ ghost use Rattle.zulfringa.specs.Checks.{Checks};
 
 use choosers::first::First;
 use memos::keeping::Keeping;
-use session::{Fault, Session};
-
-// The most splits that a decision may be allowed.
-const ALLOWANCE: u32 = 1_000_000;
+use session::{Fault, MOST_ALLOWED, Session};
 
 // The verdict with the splits that it took, and V and C of the text's problem line.
 #[derive(Clone, Copy, PartialEq, Eq, Debug)]
@@ -25,7 +22,7 @@ pub fn check(text: &[u8]) -> Result<Checked, Fault>
 {
     let mut session = Session::new(Keeping::new(), First);
     let loaded = session.load(text)?;
-    let (verdict, splits) = session.decide(ALLOWANCE)?;
+    let (verdict, splits) = session.decide(MOST_ALLOWED)?;
     Ok(Checked {
         verdict,
         splits,

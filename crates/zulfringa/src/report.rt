@@ -1,37 +1,31 @@
 // What the program prints of a text.
-ghost use Rattle.std.specs.Prelude.{◌≡◌, Some, Result};
-ghost use Rattle.session.specs.declared.fault.Fault.{Fault};
-ghost use Rattle.zulfringa.specs.declared.checking.Checked.{Checked};
+ghost use Rattle.std.specs.Prelude.{◌≡◌, Some};
 ghost use Rattle.zulfringa.specs.BySession.{BySession};
 ghost use Rattle.zulfringa.specs.Checks.{Checks};
-ghost use Rattle.zulfringa.specs.Reports.{reported, printed};
+ghost use Rattle.zulfringa.specs.Reports.{printed};
 
 use crate::checking::{Checked, check};
+use session::Fault;
 use std::fmt;
 
 // The answer to a text as it is told: a refusal by its number, with its offset or splits.
 #[derive(Clone, Copy)]
-pub enum Report {
-    Verdict(Checked),
-    Refusal(u8, usize),
-}
+pub struct Report(pub Result<Checked, Fault>);
 
 // Checks the text.
 pub fn report_on(text: &[u8]) -> Report
-    ensures { (a : Result Checked Fault) × BySession text.now a × Checks text.now a × (result ≡ reported a) }
+    ensures session { BySession text.now result.0 }
+    ensures means { Checks text.now result.0 }
 {
-    match check(text) {
-        Ok(checked) => Report::Verdict(checked),
-        Err(fault) => Report::Refusal(fault.number(), fault.value().unwrap_or(0)),
-    }
+    Report(check(text))
 }
 
 impl fmt::Display for Report {
-    ghost output = { λ report. Some (printed report) };
+    ghost output = { λ report. Some (printed report.0) };
 
     fn fmt<W: fmt::Write>(&self, f: &mut fmt::Formatter<W>) -> fmt::Result {
-        match self {
-            Report::Verdict(checked) => {
+        match self.0 {
+            Ok(checked) => {
                 let verdict = u8::from(checked.verdict);
                 let variables = checked.variables;
                 let declared = checked.declared;
@@ -41,11 +35,7 @@ impl fmt::Display for Report {
                     "s cnf {verdict} {variables} {declared}\nc splits {splits}"
                 )
             }
-            Report::Refusal(number, at) => {
-                let number = *number;
-                let at = *at;
-                write!(f, "c refused {number} at {at}")
-            }
+            Err(fault) => write!(f, "c {fault}"),
         }
     }
 }
