@@ -12,7 +12,8 @@ use runs::{Transcript, run};
 use script::{Call, ChooserKind, Make, MemoKind};
 use std::alloc::{AllocError, Global};
 
-// Carries out the calls on a new session that is made so.
+// Carries out the calls on a new session that is made so. A script names memo and chooser as data, and a session is generic over
+// both, so that each is matched once.
 pub fn replay(heap: Global, make: Make, calls: &[Call]) -> Result<Transcript, AllocError>
     ensures { IfOk result (λ t. RanAs make calls.now t) }
 {

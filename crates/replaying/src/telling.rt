@@ -12,9 +12,9 @@ pub fn tell_all(heap: Global, answers: &[Answer], texts: &[u8]) -> Result<Vec<u8
     let mut out = Vec::new(heap);
     let mut rest = texts;
     for answer in answers {
-        let len = written(answer).min(rest.len());
-        tell(heap, &mut out, answer, &rest[0..len])?;
-        rest = &rest[len..];
+        let (text, later) = rest.split_at(written(answer).min(rest.len()));
+        tell(heap, &mut out, answer, text)?;
+        rest = later;
     }
     Ok(out)
 }

@@ -1,3 +1,2 @@
-pub mod Bits
 pub mod Carrying
 pub mod Onward

@@ -57,11 +57,11 @@ module _ {M C : Type 0} (held : M → Pairs) (notes : M → ℕ → Bool → M �
       }
 
   -- the call at a place of the list
-  pub call_at : (calls : List Call) (i : ℕ) (d : Call) → i < length calls → (s t : Session M C) (answers noted : List Answer) (texts more : List ℕ) (a : Answer) →
-      SoFar held notes picks chooser (take i calls) s answers texts → Carried held notes picks s texts (get_or calls i d) a t more → noted ≡ answers ++ a ∷ [] →
+  pub call_at : (calls : List Call) (i : ℕ) (d : Call) → i < length calls → d ≡ get_or calls i d → (s t : Session M C) (answers noted : List Answer) (texts more : List ℕ) (a : Answer) →
+      SoFar held notes picks chooser (take i calls) s answers texts → Carried held notes picks s texts d a t more → noted ≡ answers ++ a ∷ [] →
       SoFar held notes picks chooser (take (i + 1) calls) t noted more
-  call_at calls i d h s t answers noted texts more a f carried e =
-      rw (take_more calls i d h, e) (one_called (take i calls) s t answers texts more (get_or calls i d) a f carried)
+  call_at calls i d h k s t answers noted texts more a f carried e =
+      rw (take_more calls i d h, ← k, e) (one_called (take i calls) s t answers texts more d a f carried)
 
   pub all_called : (calls : List Call) (s : Session M C) (t : Transcript) → SoFar held notes picks chooser calls s (vec_items t.answers) (vec_items t.texts) → Ran held notes (picks chooser) calls t
   all_called calls s t f =

@@ -1,14 +1,11 @@
 -- What carrying out one call comes to.
-use Rattle.std.specs.Prelude.{◌≡◌, ℕ, Bool, List, [], ◌++◌, Result}
+use Rattle.std.specs.Prelude.{◌≡◌, ℕ, Bool, List, [], ◌++◌}
 use Rattle.qbf.specs.declared.Candidate.{Candidate}
 use Rattle.qbf.specs.Memo.{Pairs}
 use Rattle.script.specs.declared.calls.Call.{Call}
-use Rattle.ledger.specs.Answers.{WriteAnswer}
 use Rattle.ledger.specs.Ledger.{Dealing, load, decide, write, forget}
 use Rattle.histories.specs.Standing.{Standing}
-use Rattle.session.specs.declared.fault.Fault.{Fault}
 use Rattle.session.specs.declared.session.Session.{Session}
-use Rattle.session.specs.Answers.{write_result}
 use Rattle.session.specs.Calls.{Dealt}
 use Rattle.session.specs.Views.{standing}
 use Rattle.runs.specs.declared.answer.Answer.{Answer}
@@ -29,10 +26,3 @@ pub record Carried {M C : Type 0} (held : M → Pairs) (notes : M → ℕ → Bo
   pub is : IsDealing c a dealing
   pub dealt : Dealt held notes picks s dealing t
   pub texts : after ≡ before ++ put_at (standing s) dealing
-
--- a writing into so much space was answered so
-pub record WriteCarried {M C : Type 0} (held : M → Pairs) (notes : M → ℕ → Bool → M → Type 0) (picks : C → List Candidate → ℕ) (s : Session M C) (before : List ℕ) (space : ℕ) (r : Result ℕ Fault) (after : List ℕ) : Type 0 where
-  pub answer : WriteAnswer
-  pub told : r ≡ write_result answer
-  pub dealt : Dealt held notes picks s (write space answer) s
-  pub texts : after ≡ before ++ text_put (standing s).prefix (standing s).formula answer

@@ -1,7 +1,7 @@
 // A run: one call after the other.
-ghost use Rattle.std.specs.Prelude.{length, IfOk};
+ghost use Rattle.std.specs.Prelude.{IfOk};
 ghost use Rattle.script.specs.declared.calls.Call.TheVariants.{Write};
-ghost use Rattle.runs.specs.Carried.{Carried, WriteCarried};
+ghost use Rattle.runs.specs.Carried.{Carried};
 ghost use Rattle.runs.specs.Runs.{Ran};
 
 use crate::answer::Answer;
@@ -9,7 +9,7 @@ use crate::transcript::Transcript;
 use choosers::Chooser;
 use memos::Memo;
 use script::{Call, Space};
-use session::{Fault, Session};
+use session::Session;
 use std::alloc::{AllocError, Global};
 
 // Carries out the calls on a new session with this memo and this chooser. The heap holds the transcript, and may refuse to.
@@ -50,7 +50,7 @@ fn carry_out<M: Memo, C: Chooser>(
     }
 }
 
-// A buffer of just the space that is given.
+// Writes into a buffer of just the space that is given; the text, if it fits, goes behind those before it.
 fn write_out<M: Memo, C: Chooser>(
     session: &Session<M, C>,
     space: Space,
@@ -58,22 +58,10 @@ fn write_out<M: Memo, C: Chooser>(
 ) -> Result<Answer, AllocError>
     ensures { IfOk result (λ a. Carried M.held M.notes C.picks session.now texts.old.items (Write space) a session.now texts.new.items) }
 {
-    let mut buffer = [0u8; Space::MOST];
-    let answer = write_by(session, &mut buffer[0..space.bytes()], texts)?;
-    Ok(Answer::Writing(answer))
-}
-
-// Writes by way of the buffer; the text, if it fits, goes behind those before it.
-fn write_by<M: Memo, C: Chooser>(
-    session: &Session<M, C>,
-    buffer: &mut [u8],
-    texts: &mut Vec<u8>,
-) -> Result<Result<usize, Fault>, AllocError>
-    ensures { IfOk result (λ a. WriteCarried M.held M.notes C.picks session.now texts.old.items (length buffer.old) a texts.new.items) }
-{
-    let answer = session.write(buffer);
+    let mut buffer = vec![in *texts.allocator(); 0u8; space.bytes()]?;
+    let answer = session.write(buffer.as_mut_slice());
     if let Ok(len) = answer {
-        texts.extend_from_slice(&buffer[0..len])?;
+        texts.extend_from_slice(&buffer[..len])?;
     }
-    Ok(answer)
+    Ok(Answer::Writing(answer))
 }

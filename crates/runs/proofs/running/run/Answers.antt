@@ -10,7 +10,7 @@ loop-call-init g c =
 
 pub loop-call-preserved : goal.loop-call-preserved
 loop-call-preserved g c =
-    call_at g.M.Memo.held g.M.Memo.notes g.met.M.Memo.kept g.C.Chooser.picks g.met.C.Chooser.listed c.new-session.result.chooser c.args.calls.now c.loop-call.call-index _ c.loop-call-test.true
+    call_at g.M.Memo.held g.M.Memo.notes g.met.M.Memo.kept g.C.Chooser.picks g.met.C.Chooser.listed c.new-session.result.chooser c.args.calls.now c.loop-call.call-index c.call-item.result c.loop-call-test.true c.call-item.is
     c.loop-call.session c.carry_out.new.session (vec_items c.loop-call.answers) _ (vec_items c.loop-call.texts) (vec_items c.carry_out.new.texts) c.in_ok-answer.answer
     c.loop-call.invariant c.in_ok-answer.ensures c.in_ok-push.ensures.items
 
