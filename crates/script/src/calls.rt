@@ -1,5 +1,5 @@
 // The calls of a script as data.
-use crate::space::Space;
+pub use crate::space::Space;
 
 // Which memo a session has.
 #[derive(Clone, Copy, PartialEq, Eq, Debug)]

@@ -25,8 +25,26 @@ impl TryFrom<usize> for Space {
     }
 }
 
+// Every number of 16 bits is small enough.
+impl From<u16> for Space {
+    ghost from_gives = { λ bytes r. r.bytes ≡ bytes };
+
+    fn from(bytes: u16) -> Space {
+        Space {
+            bytes: usize::from(bytes),
+        }
+    }
+}
+
 impl Space {
     pub const MOST: usize = 65536;
+
+    // The largest space.
+    pub fn whole() -> Space
+        ensures { result.bytes ≡ 65536 }
+    {
+        Space { bytes: Self::MOST }
+    }
 
     // How many bytes the space has.
     pub fn bytes(&self) -> usize
