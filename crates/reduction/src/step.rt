@@ -99,7 +99,9 @@ fn fitting_line(set: Set, bindings: &[Binding]) -> Step
     }
 }
 
-// What the first line that fits the set asks for.
+// What the first line that fits the set asks for. What is counted for it is large, and is not to lie on the stack of every open
+// split, so that it is not inlined.
+#[inline(never)]
 pub(crate) fn next_step(set: Set, prefix: &Prefix) -> Step
     requires { Fitting (quantifiers_of prefix.now) (clauses_of set) }
     ensures { step_of result ≡ step (quantifiers_of prefix.now) (clauses_of set.entry) }
