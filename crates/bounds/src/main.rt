@@ -6,8 +6,10 @@ use choosers::first::First;
 use memos::keeping::Keeping;
 use runs::Answer;
 use session::Session;
-use std::alloc::{AllocError, Global};
 use std::io;
+
+// One byte more than a text may have.
+const MOST: usize = 60001;
 
 // What a new session answers to a load of the text.
 fn load(text: &[u8]) -> Answer {
@@ -22,31 +24,35 @@ fn decide(allowance: u32) -> Answer {
     Answer::Decision(session.decide(allowance))
 }
 
-// A text of so many bytes: a comment, and a problem line at its end.
-fn load_long(heap: Global, bytes: usize) -> Result<Answer, AllocError> {
+// A text of so many bytes, or of all bytes that there are: a comment, and a problem line at its end.
+fn load_long(bytes: usize) -> Answer {
     let ending = b"\np cnf 0 0\n";
-    let mut text = vec![in heap; b'c'; bytes.saturating_sub(ending.len())]?;
-    text.extend_from_slice(ending)?;
-    Ok(load(text.as_slice()))
+    let mut text = [b'c'; MOST];
+    let text = &mut text[..bytes.min(MOST)];
+    if let Some(start) = text.len().checked_sub(ending.len()) {
+        text[start..].copy_from_slice(ending);
+    }
+    load(text)
 }
 
-// A problem line, and then 2,048 empty clauses, each on a line of its own.
-fn load_clauses(heap: Global, line: &[u8]) -> Result<Answer, AllocError> {
-    let mut text = Vec::from_slice(heap, line)?;
-    for _ in 0..2048 {
-        text.extend_from_slice(b"0\n")?;
+// A problem line of 13 bytes, and then 2,048 empty clauses, each on a line of its own.
+fn load_clauses(line: &[u8; 13]) -> Answer {
+    let mut text = [b'0'; 13 + 2 * 2048];
+    let (front, clauses) = text.split_at_mut(line.len());
+    front.copy_from_slice(line);
+    for clause in clauses.chunks_exact_mut(2) {
+        clause[1] = b'\n';
     }
-    Ok(load(text.as_slice()))
+    load(&text)
 }
 
 fn main(rt: HostRuntime) -> io::Result<()> {
-    let heap = rt.alloc();
     println!(rt; "V 256: {}", load(b"p cnf 256 0\n"))?;
     println!(rt; "V 257: {}", load(b"p cnf 257 0\n"))?;
-    println!(rt; "C 2048: {}", load_clauses(heap, b"p cnf 0 2048\n")?)?;
-    println!(rt; "C 2049: {}", load_clauses(heap, b"p cnf 0 2049\n")?)?;
-    println!(rt; "60000 bytes: {}", load_long(heap, 60000)?)?;
-    println!(rt; "60001 bytes: {}", load_long(heap, 60001)?)?;
+    println!(rt; "C 2048: {}", load_clauses(b"p cnf 0 2048\n"))?;
+    println!(rt; "C 2049: {}", load_clauses(b"p cnf 0 2049\n"))?;
+    println!(rt; "60000 bytes: {}", load_long(60000))?;
+    println!(rt; "60001 bytes: {}", load_long(60001))?;
     println!(rt; "allowance 1000000: {}", decide(1000000))?;
     println!(rt; "allowance 1000001: {}", decide(1000001))
 }

@@ -1,5 +1,5 @@
--- The numbers of the table keep their sets.
-use Rattle.std.proofs.Common.{◌≡◌, ℕ, Bool, List, Some, Option}
+-- A decision makes no more splits than it is allowed, and the numbers of its table keep their sets.
+use Rattle.std.proofs.Common.{◌≡◌, ℕ, ◌≤◌, Bool, List, Some, Option, arith}
 use Rattle.qbf.specs.declared.Quantifier.{Quantifier}
 use Rattle.qbf.specs.declared.Candidate.{Candidate}
 use Rattle.qbf.specs.Memo.{Pairs}
@@ -39,3 +39,20 @@ module _ {M : Type 0} {held : M → Pairs} {notes : M → ℕ → Bool → M →
   pub stay_side : {depth splits done l : ℕ} {t u : Numbering} {m a : M} {s : List (List ℕ)} {e : Ending} → Side held notes prefix pick allowance depth splits t m s l e done u a → Stay t u
   stay_side (unmade st) n x h = stay_stops st n x h
   stay_side (walked mk d) n x h = stay d n x (stands_later mk.gains n x h)
+
+  pub within : {depth splits done : ℕ} {t u : Numbering} {m a : M} {s : List (List ℕ)} {e : Ending} → Decides held notes prefix pick allowance depth splits t m s e done u a → splits ≤ allowance → done ≤ allowance
+  within (by_reducing i) h = h
+  within (full_reducing i) h = h
+  within (recalled i st k) h = h
+  within (by_allowance un e) h = h
+  within (by_depth un l e) h = h
+  within (full_first sp stop) h = omega (arith, sp.allowed)
+  within (refused_first sp mk d) h = within d (omega (arith, sp.allowed))
+  within (first_only sp mk d en nt) h = within d (omega (arith, sp.allowed))
+  within (full_second sp mk d en stop) h = within d (omega (arith, sp.allowed))
+  within (refused_second sp mk d en mk2 d2) h = within d2 (within d (omega (arith, sp.allowed)))
+  within (both_sides sp mk d en mk2 d2 nt) h = within d2 (within d (omega (arith, sp.allowed)))
+
+  pub within_side : {depth splits done l : ℕ} {t u : Numbering} {m a : M} {s : List (List ℕ)} {e : Ending} → Side held notes prefix pick allowance depth splits t m s l e done u a → splits ≤ allowance → done ≤ allowance
+  within_side (unmade st) h = h
+  within_side (walked mk d) h = within d h

@@ -9,8 +9,9 @@ ghost use Rattle.std.specs.Prelude.{ℕ, ◌≤◌, ◌≢◌, length};
 ghost use Rattle.normal.specs.Normal.{Normal};
 
 pub use fault::Unwritten;
+use formula::Formula;
 use loading::store_clauses;
-use reader::read;
+use reader::read_into;
 use table::Table;
 use writer::write;
 
@@ -20,7 +21,9 @@ pub fn normalized(text: &[u8], buffer: &mut [u8]) -> Result<usize, Unwritten>
     ensures normal { Normal text.now buffer.old buffer.new result }
     ensures enough { 60000 ≤ length buffer.old → (n : ℕ) → result ≢ Err (Unwritten.TooShort n) }
 {
-    let formula = read(text)?;
+    // Read in place: as an answer it would be moved, with its arrays, from call to call.
+    let mut formula = Formula::new();
+    read_into(text, &mut formula)?;
     let mut table = Table::new();
     let number = store_clauses(&mut table, &formula.clauses)?;
     let set = table.set(number);

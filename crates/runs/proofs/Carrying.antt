@@ -1,5 +1,5 @@
 -- One call that was carried out.
-use Rattle.std.proofs.Common.{◌≡◌, ℕ, Bool, List, [], ◌++◌, length, take, drop, Ok, Err, Option, Result, sym, refl, ap, ◌∙◌, subst, append-nil, arith, Bor}
+use Rattle.std.proofs.Common.{◌≡◌, ℕ, Bool, List, [], ◌++◌, length, take, drop, Ok, Err, Option, Result, sym, refl, ap, ◌∙◌, subst, append-nil, arith, ◌≤◌, length-take, Bor}
 use Rattle.std.proofs.lemmas.List.{take_at}
 use Rattle.qbf.specs.declared.Candidate.{Candidate}
 use Rattle.qbf.specs.Memo.{Pairs}
@@ -36,6 +36,10 @@ put_nothing o f (too_short m) fault e = refl
 -- what stands at the front of the buffer
 front : (text before after : List ℕ) (n : ℕ) → Written text before after n → take n after ≡ text
 front text before after n w = ap (take n) w.stands ∙ take_at text (drop n before) n (sym w.counted)
+
+-- how long the front of a list is
+pub front_length : (n k : ℕ) (xs : List ℕ) → n ≤ length xs → n ≡ k → length (take n xs) ≡ k
+front_length n k xs h e = omega (arith, length-take n xs)
 
 -- what is copied from the buffer
 abbrev pub copied : Result ℕ Fault → List ℕ → List ℕ

@@ -50,7 +50,8 @@ fn carry_out<M: Memo, C: Chooser>(
     }
 }
 
-// Writes into a buffer of just the space that is given; the text, if it fits, goes behind those before it.
+// Writes into a buffer of just the space that is given; the text, if it fits, goes behind those before it. The buffer is no part of the
+// heap, so that a call that writes nothing asks for no memory.
 fn write_out<M: Memo, C: Chooser>(
     session: &Session<M, C>,
     space: Space,
@@ -58,8 +59,9 @@ fn write_out<M: Memo, C: Chooser>(
 ) -> Result<Answer, AllocError>
     ensures { IfOk result (λ a. Carried M.held M.notes C.picks session.now texts.old.items (Write space) a session.now texts.new.items) }
 {
-    let mut buffer = vec![in *texts.allocator(); 0u8; space.bytes()]?;
-    let answer = session.write(buffer.as_mut_slice());
+    let mut room = [0u8; Space::MOST];
+    let buffer = &mut room[..space.bytes()];
+    let answer = session.write(buffer);
     if let Ok(len) = answer {
         texts.extend_from_slice(&buffer[..len])?;
     }

@@ -2,11 +2,12 @@
 // and the splits, `c splits N`; or only `c refused N at P` for a refusal.
 #![tactic(auto)]
 
-use input::read_text;
+use input::{MOST, fill};
 use std::io;
 use zulfringa::report_on;
 
 fn main(rt: HostRuntime) -> io::Result<()> {
-    let text = read_text(rt.alloc(), rt.stdin())?;
-    println!(rt; "{}", report_on(text.as_slice()))
+    let mut buffer = [0u8; MOST];
+    let len = fill(&rt, &mut buffer)?;
+    println!(rt; "{}", report_on(&buffer[..len]))
 }

@@ -75,7 +75,11 @@ impl<'a> Iterator for Scanner<'a> {
     // The next word, if any is left.
     fn next(&mut self) -> Option<Word<'a>> {
         let rest = &self.text[self.pos..];
-        let gap = gap_len(rest)?;
+        let Some(gap) = gap_len(rest) else {
+            // A later call does not go over the gap again.
+            self.pos = self.text.len();
+            return None;
+        };
         let (skipped, word) = rest.split_at(gap);
         let at = self.pos + gap;
         let bytes = &word[..word_len(word)];

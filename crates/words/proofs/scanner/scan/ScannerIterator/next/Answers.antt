@@ -1,15 +1,18 @@
-use Rattle.std.proofs.Common.{◌≡◌, Bool, ◌||◌, eqb, length, ap, ◌∙◌, sym, refl, arith}
+use Rattle.std.proofs.Common.{◌≡◌, Bool, ◌||◌, eqb, length, le_refl, ap, ◌∙◌, sym, refl, arith}
 use Rattle.std.specs.List.{list_any}
-use Rattle.std.proofs.lemmas.List.{take_rest}
+use Rattle.std.proofs.lemmas.List.{take_rest, drop_all}
+use Rattle.words.specs.Words.{scan}
+use Rattle.words.specs.Words.Mode.{gap}
 use Rattle.words.proofs.Next.{word_left, none_left}
 use Rattle.words.proofs.scanner.scan.ScannerIterator.next.Goals as goal
 use Rattle.words.proofs.scanner.scan.ScannerIterator.next.Goals.{then-self, else-self}
 
-pub returns-in_err-gap-clause-steps : goal.returns-in_err-gap-clause-steps
-returns-in_err-gap-clause-steps c =
+pub returns-in_default-clause-steps : goal.returns-in_default-clause-steps
+returns-in_default-clause-steps c =
     let s = c.args.self.now in
-    let none = none_left s.fresh s.pos _ _ (take_rest s.text.now s.pos) (sym c.gap_len.ensures ∙ c.in_err-gap.was) in
-    rw c.from_residual.ensures (record { cases = none; ended = none; same = refl })
+    let none = none_left s.fresh s.pos _ _ (take_rest s.text.now s.pos) (sym c.gap_len.ensures ∙ c.in_default.is) in
+    let ended = ap (scan (gap s.fresh) (length s.text.now)) (drop_all (length s.text.now) s.text.now (le_refl _)) in
+    record { cases = none; ended = ended; same = refl }
 
 pub returns : goal.returns
 returns c =
@@ -22,7 +25,7 @@ returns c =
       | else-self w ↦ w.first-is ∙ w.contains-first.ensures.value ∙ sym (ap (λ (f : Bool). f || ends) w.if-self.false)
     ] in
     let cases =
-    word_left s.fresh c.if-self.first s.text.now _ skipped c.split_at.result.1.now s.pos c.in_ok-gap.gap c.word_len.result (take_rest s.text.now s.pos) (sym c.gap_len.ensures ∙ c.in_ok-gap.was) c.split_at.ensures.front c.split_at.ensures.back
+    word_left s.fresh c.if-self.first s.text.now _ skipped c.split_at.result.1.now s.pos c.in-Some.gap c.word_len.result (take_rest s.text.now s.pos) (sym c.gap_len.ensures ∙ c.in-Some.is) c.split_at.ensures.front c.split_at.ensures.back
     c.word_len.ensures first in
     record {
       steps = record { cases = cases; ended = tt; same = refl };
